@@ -1,0 +1,7 @@
+pub mod Shape
+pub mod Wrap
+pub mod Reference
+pub mod WordState
+pub mod StepRules
+pub mod Laws
+pub mod Moves

@@ -1,0 +1,8 @@
+//! What the whole of memprof speaks of: the shape of a machine, tags and references, and the state of its
+//! words. The definitions of the laws stand in `specs/`, and each step that the machine may take is proved to
+//! keep them in `rows`.
+#![tactic(auto)]
+
+pub mod limits;
+pub mod shape;
+pub mod state;
