@@ -1,0 +1,9 @@
+//! The word machine, run step by step: each step of each CPU is one step of the step rules, and every state
+//! between two steps is safe.
+#![tactic(auto)]
+
+pub mod machine;
+pub mod op;
+mod pending;
+mod step;
+mod words;

@@ -1,0 +1,77 @@
+ghost use Rattle.std.specs.Prelude.{◌≡◌, ◌<◌, ◌++◌, ◌∷◌, [], length, IfOk, OnOk, OnErr, slice_get};
+ghost use Rattle.core_steps.specs.Machine.{Waiting, nothing_waits, advanced, step_count};
+ghost use Rattle.core_steps.specs.CoreState.{with_op};
+ghost use Rattle.core_steps.specs.declared.op.TheConstants.{MAX_QUEUED};
+
+use std::alloc::{AllocError, Global};
+use std::collections::VecDeque;
+use std::marker::Model;
+
+use crate::op::Op;
+use crate::step;
+
+/// The ops of a CPU, in order, of which so many steps of the first are done.
+#[derive(Drop)]
+pub struct Pending {
+    ops: VecDeque<Op>,
+    done: u32,
+}
+
+impl Model for Pending {
+    ghost use Rattle.core_steps.specs.Machine.{Waiting};
+
+    ghost Value = { Waiting };
+
+    ghost view = { λ p. record { ops = p.ops.items; done = p.done } };
+}
+
+impl Pending {
+    pub fn new(alloc: Global) -> Pending
+        ensures { result ≡ nothing_waits }
+    {
+        Pending {
+            ops: VecDeque::new(alloc),
+            done: 0,
+        }
+    }
+
+    pub fn len(&self) -> usize
+        ensures { result ≡ length self.now.ops }
+    {
+        self.ops.len()
+    }
+
+    pub fn first(&self) -> Option<Op>
+        ensures { result ≡ slice_get self.now.ops 0 }
+    {
+        self.ops.front().copied()
+    }
+
+    pub fn done(&self) -> u32
+        ensures { result ≡ self.now.done }
+    {
+        self.done
+    }
+
+    pub fn push(&mut self, op: Op) -> Result<(), AllocError>
+        ensures ok { OnOk result (self.new ≡ with_op self.old op) }
+        ensures err { OnErr result (self.new ≡ self.old) }
+    {
+        self.ops.push_back(op)?;
+        Ok(())
+    }
+
+    /// One step more of the first op is done; after its last the next op is the first.
+    pub fn advance(&mut self, first: Op)
+        requires first { slice_get self.old.ops 0 ≡ Some first }
+        requires under_way { self.old.done < step_count first }
+        ensures { self.new ≡ advanced self.old.ops self.old.done }
+    {
+        if self.done + 1 == step::step_count(first) {
+            self.ops.pop_front();
+            self.done = 0;
+        } else {
+            self.done += 1;
+        }
+    }
+}
