@@ -1,12 +1,12 @@
 //! The core: every CPU's words, hand and ops, and every place, on plain vectors.
 
-ghost use Rattle.std.specs.Prelude.{◌≡◌, ℕ, ◌*◌, ◌<◌, ◌≤◌, ◌↔◌, length, replicate, MatchOption, IfOk, OnOk, OnErr, IsErrOf, Some, None, slice_get, slice_index_or, slice_set, List, IsTrue};
+ghost use Rattle.std.specs.Prelude.{◌≡◌, ℕ, ◌*◌, ◌+◌, ◌<◌, ◌≤◌, ◌↔◌, length, replicate, MatchOption, IfOk, OnOk, OnErr, IsErrOf, Some, None, slice_get, slice_index_or, slice_set, List, IsTrue};
 ghost use Rattle.tag_model.specs.Shape.{IsChecked};
 ghost use Rattle.tag_model.specs.StepRules.{Steps};
 ghost use Rattle.tag_model.specs.Laws.{Safe};
 ghost use Rattle.core_steps.specs.declared.op.TheConstants.{MAX_QUEUED};
 ghost use Rattle.core_steps.specs.Machine.{Waiting, nothing_waits, is_reserved, reserves, names_key, held_at, open_refusal, first_refusal, after_step, refusal_of, holds_nothing, NamesPlaces, machine_of};
-ghost use Rattle.core_steps.specs.CoreState.{CanGo, words_after_step};
+ghost use Rattle.core_steps.specs.CoreState.{CanGo, words_after_step, with_op, words_at, total_of};
 ghost use Rattle.tag_model.specs.declared.state.Held.TheVariants as held;
 
 use std::alloc::{AllocError, Global};
@@ -130,6 +130,32 @@ fn first_refusal(op: Op, places: &[Held], waiting: &[Pending]) -> Option<StepRef
     }
 }
 
+fn push_op(pending: &mut Pending, op: Op) -> Result<(), QueueError>
+    ensures ok { OnOk result (pending.new ≡ with_op pending.old op) }
+    ensures full { (result ≡ Err QueueError.QueueFull) ↔ (MAX_QUEUED ≤ length pending.old.ops) }
+    ensures err { OnErr result (pending.new ≡ pending.old) }
+{
+    if pending.len() >= MAX_QUEUED {
+        return Err(QueueError::QueueFull);
+    }
+    match pending.push(op) {
+        Ok(()) => Ok(()),
+        Err(refused) => Err(QueueError::Memory(refused)),
+    }
+}
+
+/// The words of a kind of a tag, added over the CPUs. They wrap.
+fn total(words: &[CpuWords], kind: Kind, tag: u32) -> u64
+    requires { (cpu : ℕ) → cpu < length words.now → 2 * tag + 1 < length (words_at words.now cpu) }
+    ensures { result ≡ total_of words.now kind tag }
+{
+    let mut total = 0u64;
+    for own in words {
+        total = total.wrapping_add(own.read(kind, tag));
+    }
+    total
+}
+
 /// Takes the CPU's next step, or says why it is refused.
 fn step_on(
     cpu: usize,
@@ -158,4 +184,71 @@ fn step_on(
     step::take(next_step(op, done), &mut words[cpu], &mut hands[cpu], places);
     waiting[cpu].advance(op);
     Ok(Event::Stepped)
+}
+
+impl Core {
+    ghost use Rattle.core_steps.specs.CoreState.{CoreState, IsCore, IsActor, IsOp, fresh, queued, ops_of, refused, stepped, word_state, total_of};
+    ghost use Rattle.tag_model.specs.declared.state.Kind.TheVariants.{Bytes, Calls};
+
+    /// All words are 0, no key holds anything, and nothing is queued.
+    pub fn start(alloc: Global, shape: Shape, kernel_len: u32) -> Result<Core, AllocError>
+        requires shape { IsChecked shape }
+        requires some_tag { 0 < kernel_len }
+        requires kernel { kernel_len ≤ shape.kernel_tags }
+        ensures { IfOk result (λ core. core ≡ fresh shape kernel_len) }
+    {
+        Ok(Core {
+            shape,
+            kernel_len,
+            hands: no_hands(alloc, shape.cpus)?,
+            places: empty_places(alloc, KEY_END)?,
+            waiting: no_ops(alloc, shape.cpus)?,
+            words: no_words(alloc, shape.cpus, shape.tags)?,
+        })
+    }
+
+    /// Puts the op behind those that the actor has queued or under way.
+    pub fn queue(&mut self, actor: Actor, op: Op) -> Result<(), QueueError>
+        requires actor { IsActor self.old actor }
+        requires op { IsOp self.old.kernel_len op }
+        ensures ok { OnOk result (self.new ≡ queued self.old actor op) }
+        ensures full { (result ≡ Err QueueError.QueueFull) ↔ (MAX_QUEUED ≤ length (ops_of self.old actor)) }
+        ensures err { OnErr result (self.new ≡ self.old) }
+    {
+        let Actor::Cpu(cpu) = actor;
+        push_op(&mut self.waiting[cpu as usize], op)
+    }
+
+    /// Takes the next step of the actor's first op.
+    pub fn go(&mut self, actor: Actor) -> Result<Event, StepRefused>
+        // Each refusal comes exactly at its state.
+        ensures answer { MatchOption (refused self.old actor) (result ≡ Ok Event.Stepped) (λ r. result ≡ Err r) }
+        ensures ok { OnOk result (self.new ≡ stepped self.old actor) }
+        ensures err { OnErr result (self.new ≡ self.old) }
+        // A step that is taken is one of the step rules, and every state is safe.
+        ensures row { OnOk result (Steps self.old.shape (word_state self.old) (word_state self.new)) }
+        ensures safe { Safe self.new.shape (word_state self.new) }
+    {
+        let Actor::Cpu(cpu) = actor;
+        step_on(
+            cpu as usize,
+            self.hands.as_mut_slice(),
+            self.places.as_mut_slice(),
+            self.waiting.as_mut_slice(),
+            self.words.as_mut_slice(),
+        )
+    }
+
+    /// The tag's byte words and call words, added over the CPUs. They wrap.
+    pub fn totals(&self, tag: u32) -> (u64, u64)
+        requires { tag < self.now.shape.tags }
+        ensures bytes { result.0 ≡ total_of self.now.words Bytes tag }
+        ensures calls { result.1 ≡ total_of self.now.words Calls tag }
+    {
+        let words = self.words.as_slice();
+        (
+            total(words, Kind::Bytes, tag),
+            total(words, Kind::Calls, tag),
+        )
+    }
 }

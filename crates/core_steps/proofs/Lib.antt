@@ -1,0 +1,4 @@
+pub mod Parts
+pub mod Leads
+pub mod Ready
+pub mod Kept
