@@ -1,0 +1,5 @@
+pub mod Alike
+pub mod Found
+pub mod Moved
+pub mod Parts
+pub mod Words
