@@ -1,5 +1,7 @@
 pub mod Alike
 pub mod Found
+pub mod Lists
 pub mod Moved
 pub mod Parts
+pub mod Swept
 pub mod Words

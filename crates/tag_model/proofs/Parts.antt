@@ -31,6 +31,7 @@ pub record IsOfList (f : Part → ℕ) : Type 0 where
 pub record TheList (ps : List Part) : Type 0 where
   pub l : ListPart
   pub only : (f : Part → ℕ) → IsOfList f → sum_by f ps ≡ f (Modules l)
+  pub stands : (f : Part → ℕ) → f (Modules l) ≤ sum_by f ps
 
 pub no_list : (ps : List Part) → sum_by is_list ps ≡ 0 → (f : Part → ℕ) → IsOfList f → sum_by f ps ≡ 0
 no_list [] e f o = refl
@@ -43,12 +44,12 @@ pub the_list : (ps : List Part) → sum_by is_list ps ≡ 1 → TheList ps
 the_list [] e = absurd (omega arith)
 the_list (Cpu c ∷ ps) e =
     let t = the_list ps (omega (arith, sum_by-cons is_list (Cpu c) ps)) in
-    record { l = t.l; only = λ f o. omega (arith, sum_by-cons f (Cpu c) ps, o.cpu c, t.only f o) }
+    record { l = t.l; only = λ f o. omega (arith, sum_by-cons f (Cpu c) ps, o.cpu c, t.only f o); stands = λ f. omega (arith, sum_by-cons f (Cpu c) ps, t.stands f) }
 the_list (Place n held ∷ ps) e =
     let t = the_list ps (omega (arith, sum_by-cons is_list (Place n held) ps)) in
-    record { l = t.l; only = λ f o. omega (arith, sum_by-cons f (Place n held) ps, o.place n held, t.only f o) }
+    record { l = t.l; only = λ f o. omega (arith, sum_by-cons f (Place n held) ps, o.place n held, t.only f o); stands = λ f. omega (arith, sum_by-cons f (Place n held) ps, t.stands f) }
 the_list (Modules l ∷ ps) e =
-    record { l = l; only = λ f o. omega (arith, sum_by-cons f (Modules l) ps, no_list ps (omega (arith, sum_by-cons is_list (Modules l) ps)) f o) }
+    record { l = l; only = λ f o. omega (arith, sum_by-cons f (Modules l) ps, no_list ps (omega (arith, sum_by-cons is_list (Modules l) ps)) f o); stands = λ f. omega (arith, sum_by-cons f (Modules l) ps) }
 the_list (NextId id ∷ ps) e =
     let t = the_list ps (omega (arith, sum_by-cons is_list (NextId id) ps)) in
-    record { l = t.l; only = λ f o. omega (arith, sum_by-cons f (NextId id) ps, o.pass id, t.only f o) }
+    record { l = t.l; only = λ f o. omega (arith, sum_by-cons f (NextId id) ps, o.pass id, t.only f o); stands = λ f. omega (arith, sum_by-cons f (NextId id) ps, t.stands f) }
