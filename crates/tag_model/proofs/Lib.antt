@@ -1,4 +1,5 @@
 pub mod Alike
+pub mod CpuFits
 pub mod Found
 pub mod Lists
 pub mod Moved
