@@ -1,5 +1,6 @@
 pub mod Alike
 pub mod CpuFits
+pub mod CpuRows
 pub mod Found
 pub mod Lists
 pub mod Moved
