@@ -5,5 +5,6 @@ pub mod Found
 pub mod Lists
 pub mod Moved
 pub mod Parts
+pub mod PlaceRow
 pub mod Swept
 pub mod Words
