@@ -1,0 +1,10 @@
+pub mod Alike
+pub mod CpuFits
+pub mod CpuRows
+pub mod Found
+pub mod Lists
+pub mod Moved
+pub mod Parts
+pub mod PlaceRow
+pub mod Swept
+pub mod Words
