@@ -1,0 +1,89 @@
+//! The edge to std's input and output. What the outside gives and takes is trusted: a source here tells
+//! no bytes that are left, and a sink none that it took.
+ghost use Rattle.std.specs.Prelude.{◌≡◌, None};
+
+use crate::faults::Failed;
+use crate::traits::{Sink, Source};
+use std::io::{Read, Write};
+use std::marker::Model;
+
+/// Reads from a reader of std's, as standard input. Contracts see its count of faults, and the reader
+/// is trusted: nothing says which bytes it gives. Each error of the reader is a fault.
+#[derive(Drop)]
+pub struct StdSource<I: Read> {
+    input: I,
+    faults: u64,
+}
+
+impl<I: Read> Model for StdSource<I> {
+    ghost use Rattle.std.specs.Prelude.{ℕ};
+
+    ghost Value = { ℕ };
+
+    ghost view = { λ s. s.faults };
+}
+
+impl<I: Read> StdSource<I> {
+    pub fn new(input: I) -> StdSource<I>
+        ensures { result ≡ 0 }
+    {
+        StdSource { input, faults: 0 }
+    }
+}
+
+impl<I: Read> Source for StdSource<I> {
+    ghost left = { λ _. None };
+
+    ghost faults = { λ s. s };
+
+    fn read(&mut self, buffer: &mut [u8]) -> Result<usize, Failed> {
+        match self.input.read(buffer) {
+            Ok(n) => Ok(n),
+            Err(_) => {
+                self.faults = self.faults.saturating_add(1);
+                Err(Failed)
+            }
+        }
+    }
+}
+
+/// Writes to a writer of std's, as standard output. Contracts see its count of faults, and the writer
+/// is trusted: nothing says where the bytes go. Each error of the writer is a fault, and so is an
+/// answer that it took no byte.
+#[derive(Drop)]
+pub struct StdSink<O: Write> {
+    output: O,
+    faults: u64,
+}
+
+impl<O: Write> Model for StdSink<O> {
+    ghost use Rattle.std.specs.Prelude.{ℕ};
+
+    ghost Value = { ℕ };
+
+    ghost view = { λ s. s.faults };
+}
+
+impl<O: Write> StdSink<O> {
+    pub fn new(output: O) -> StdSink<O>
+        ensures { result ≡ 0 }
+    {
+        StdSink { output, faults: 0 }
+    }
+}
+
+impl<O: Write> Sink for StdSink<O> {
+    ghost taken = { λ _. None };
+
+    ghost faults = { λ s. s };
+
+    fn write(&mut self, bytes: &[u8]) -> Result<usize, Failed> {
+        match self.output.write(bytes) {
+            Ok(n) if n > 0 => Ok(n),
+            _ => {
+                self.faults = self.faults.saturating_add(1);
+                Err(Failed)
+            }
+        }
+    }
+}
