@@ -1,5 +1,5 @@
 -- What contracts see of a source and of a sink in memory.
-use Rattle.std.specs.Prelude.{ℕ, ◌+◌, ◌-◌, ◌≤◌, ◌⊎◌, ◌≡◌, List, ◌++◌, length, take, drop, min, Contains, Result, MatchResult}
+use Rattle.std.specs.Prelude.{ℕ, ◌-◌, ◌⊎◌, ◌≡◌, List, ◌++◌, length, take, drop, min, Contains}
 use Rattle.outside.specs.Faults.{one_more}
 
 -- the bytes not yet read, the numbers of the calls that fail, the most bytes in a call, the number of the next call, the count of faults

@@ -4,6 +4,8 @@
 mod faults;
 mod memory;
 mod standard;
+#[cfg(test)]
+mod tests;
 mod traits;
 mod whole;
 

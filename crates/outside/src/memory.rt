@@ -54,6 +54,7 @@ impl MemSource {
 fn copy_piece(from: &[u8], to: &mut [u8], piece: usize) -> usize
     ensures count { result ≡ min piece (min (length to.old) (length from.now)) }
     ensures copied { to.new ≡ take result from.now ++ drop result to.old }
+    ensures front { take result to.new ≡ take result from.now }
 {
     let n = piece.min(to.len().min(from.len()));
     to[..n].copy_from_slice(&from[..n]);
