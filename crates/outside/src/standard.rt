@@ -1,6 +1,10 @@
 //! The edge to std's input and output. What the outside gives and takes is trusted: a source here tells
 //! no bytes that are left, and a sink none that it took.
-ghost use Rattle.std.specs.Prelude.{◌≡◌, None};
+ghost use Rattle.std.specs.Prelude.{◌≡◌, ◌<◌, length, None, IfOk, OnOk, OnErr};
+ghost use Rattle.std.specs.Io.{ReadsAtMost, WritesAtMost};
+ghost use Rattle.std.specs.Io.KnownBytes.{ReadConsumes, WriteAppends};
+ghost use Rattle.outside.specs.Bytes.{IsZeroAtEnd};
+ghost use Rattle.outside.specs.Faults.{HasCause, one_more};
 
 use crate::faults::Failed;
 use crate::traits::{Sink, Source};
@@ -36,7 +40,17 @@ impl<I: Read> Source for StdSource<I> {
 
     ghost faults = { λ s. s };
 
-    fn read(&mut self, buffer: &mut [u8]) -> Result<usize, Failed> {
+    fn read(&mut self, buffer: &mut [u8]) -> Result<usize, Failed>
+        requires { 0 < length buffer.old }
+        ensures bound { ReadsAtMost result buffer.new }
+        ensures bytes { ReadConsumes None None result buffer.new }
+        ensures end { IfOk result (IsZeroAtEnd None) }
+        ensures cause { HasCause self.old self.new result }
+
+        // The count rises at each fault and nowhere else.
+        ensures ok { OnOk result (self.new ≡ self.old) }
+        ensures err { OnErr result (self.new ≡ one_more self.old) }
+    {
         match self.input.read(buffer) {
             Ok(n) => Ok(n),
             Err(_) => {
@@ -77,7 +91,17 @@ impl<O: Write> Sink for StdSink<O> {
 
     ghost faults = { λ s. s };
 
-    fn write(&mut self, bytes: &[u8]) -> Result<usize, Failed> {
+    fn write(&mut self, bytes: &[u8]) -> Result<usize, Failed>
+        requires { 0 < length bytes.now }
+        ensures bound { WritesAtMost result bytes.now }
+        ensures some { IfOk result (λ n. 0 < n) }
+        ensures bytes { WriteAppends None None result bytes.now }
+        ensures cause { HasCause self.old self.new result }
+
+        // The count rises at each fault and nowhere else.
+        ensures ok { OnOk result (self.new ≡ self.old) }
+        ensures err { OnErr result (self.new ≡ one_more self.old) }
+    {
         match self.output.write(bytes) {
             Ok(n) if n > 0 => Ok(n),
             _ => {
