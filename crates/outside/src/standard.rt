@@ -11,8 +11,8 @@ use crate::traits::{Sink, Source};
 use std::io::{Read, Write};
 use std::marker::Model;
 
-/// Reads from a reader of std's, as standard input. Contracts see its count of faults, and the reader
-/// is trusted: nothing says which bytes it gives. Each error of the reader is a fault.
+/// Reads from a reader of std's, as standard input. This is the trusted edge: the reader of standard
+/// input tells no bytes, so nothing says which it gives. Each error of the reader is a fault.
 #[derive(Drop)]
 pub struct StdSource<I: Read> {
     input: I,
@@ -20,16 +20,16 @@ pub struct StdSource<I: Read> {
 }
 
 impl<I: Read> Model for StdSource<I> {
-    ghost use Rattle.std.specs.Prelude.{ℕ};
+    ghost use Rattle.outside.specs.Edge.{Edge};
 
-    ghost Value = { ℕ };
+    ghost Value = { Edge };
 
-    ghost view = { λ s. s.faults };
+    ghost view = { λ s. record { told = I.remaining s.input; faults = s.faults } };
 }
 
 impl<I: Read> StdSource<I> {
     pub fn new(input: I) -> StdSource<I>
-        ensures { result ≡ 0 }
+        ensures { result ≡ record { told = I.remaining input; faults = 0 } }
     {
         StdSource { input, faults: 0 }
     }
@@ -38,18 +38,19 @@ impl<I: Read> StdSource<I> {
 impl<I: Read> Source for StdSource<I> {
     ghost left = { λ _. None };
 
-    ghost faults = { λ s. s };
+    ghost faults = { λ s. s.faults };
 
     fn read(&mut self, buffer: &mut [u8]) -> Result<usize, Failed>
         requires { 0 < length buffer.old }
         ensures bound { ReadsAtMost result buffer.new }
         ensures bytes { ReadConsumes None None result buffer.new }
         ensures end { IfOk result (IsZeroAtEnd None) }
-        ensures cause { HasCause self.old self.new result }
+        ensures cause { HasCause self.old.faults self.new.faults result }
 
-        // The count rises at each fault and nowhere else.
-        ensures ok { OnOk result (self.new ≡ self.old) }
-        ensures err { OnErr result (self.new ≡ one_more self.old) }
+        // What the reader tells is read, and the count rises at each fault and nowhere else.
+        ensures told { ReadConsumes self.old.told self.new.told result buffer.new }
+        ensures ok { OnOk result (self.new.faults ≡ self.old.faults) }
+        ensures err { OnErr result (self.new.faults ≡ one_more self.old.faults) }
     {
         match self.input.read(buffer) {
             Ok(n) => Ok(n),
@@ -61,9 +62,9 @@ impl<I: Read> Source for StdSource<I> {
     }
 }
 
-/// Writes to a writer of std's, as standard output. Contracts see its count of faults, and the writer
-/// is trusted: nothing says where the bytes go. Each error of the writer is a fault, and so is an
-/// answer that it took no byte.
+/// Writes to a writer of std's, as standard output. This is the trusted edge: the writer of standard
+/// output tells no bytes, so nothing says where they go. Each error of the writer is a fault, and so is
+/// an answer that it took no byte.
 #[derive(Drop)]
 pub struct StdSink<O: Write> {
     output: O,
@@ -71,16 +72,16 @@ pub struct StdSink<O: Write> {
 }
 
 impl<O: Write> Model for StdSink<O> {
-    ghost use Rattle.std.specs.Prelude.{ℕ};
+    ghost use Rattle.outside.specs.Edge.{Edge};
 
-    ghost Value = { ℕ };
+    ghost Value = { Edge };
 
-    ghost view = { λ s. s.faults };
+    ghost view = { λ s. record { told = O.contents s.output; faults = s.faults } };
 }
 
 impl<O: Write> StdSink<O> {
     pub fn new(output: O) -> StdSink<O>
-        ensures { result ≡ 0 }
+        ensures { result ≡ record { told = O.contents output; faults = 0 } }
     {
         StdSink { output, faults: 0 }
     }
@@ -89,18 +90,19 @@ impl<O: Write> StdSink<O> {
 impl<O: Write> Sink for StdSink<O> {
     ghost taken = { λ _. None };
 
-    ghost faults = { λ s. s };
+    ghost faults = { λ s. s.faults };
 
     fn write(&mut self, bytes: &[u8]) -> Result<usize, Failed>
         requires { 0 < length bytes.now }
         ensures bound { WritesAtMost result bytes.now }
         ensures some { IfOk result (λ n. 0 < n) }
         ensures bytes { WriteAppends None None result bytes.now }
-        ensures cause { HasCause self.old self.new result }
+        ensures cause { HasCause self.old.faults self.new.faults result }
 
-        // The count rises at each fault and nowhere else.
-        ensures ok { OnOk result (self.new ≡ self.old) }
-        ensures err { OnErr result (self.new ≡ one_more self.old) }
+        // What the writer tells is written, and the count rises at each fault and nowhere else.
+        ensures told { WriteAppends self.old.told self.new.told result bytes.now }
+        ensures ok { OnOk result (self.new.faults ≡ self.old.faults) }
+        ensures err { OnErr result (self.new.faults ≡ one_more self.old.faults) }
     {
         match self.output.write(bytes) {
             Ok(n) if n > 0 => Ok(n),
