@@ -2,3 +2,5 @@ pub mod Parts
 pub mod Leads
 pub mod Ready
 pub mod Kept
+pub mod Queued
+pub mod Fresh

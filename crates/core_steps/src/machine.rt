@@ -215,7 +215,18 @@ impl Core {
         ensures full { (result ≡ Err QueueError.QueueFull) ↔ (MAX_QUEUED ≤ length (ops_of self.old actor)) }
         ensures err { OnErr result (self.new ≡ self.old) }
     {
-        let Actor::Cpu(cpu) = actor;
+        match actor {
+            Actor::Cpu(cpu) => self.queue_on(cpu, op),
+        }
+    }
+
+    fn queue_on(&mut self, cpu: u32, op: Op) -> Result<(), QueueError>
+        requires cpu { cpu < self.old.shape.cpus }
+        requires op { IsOp self.old.kernel_len op }
+        ensures ok { OnOk result (self.new ≡ queued self.old (Actor.Cpu cpu) op) }
+        ensures full { (result ≡ Err QueueError.QueueFull) ↔ (MAX_QUEUED ≤ length (ops_of self.old (Actor.Cpu cpu))) }
+        ensures err { OnErr result (self.new ≡ self.old) }
+    {
         push_op(&mut self.waiting[cpu as usize], op)
     }
 
@@ -229,7 +240,18 @@ impl Core {
         ensures row { OnOk result (Steps self.old.shape (word_state self.old) (word_state self.new)) }
         ensures safe { Safe self.new.shape (word_state self.new) }
     {
-        let Actor::Cpu(cpu) = actor;
+        match actor {
+            Actor::Cpu(cpu) => self.go_on(cpu),
+        }
+    }
+
+    fn go_on(&mut self, cpu: u32) -> Result<Event, StepRefused>
+        ensures answer { MatchOption (refusal_of self.old.machine cpu) (result ≡ Ok Event.Stepped) (λ r. result ≡ Err r) }
+        ensures ok { OnOk result (self.new ≡ stepped self.old (Actor.Cpu cpu)) }
+        ensures err { OnErr result (self.new ≡ self.old) }
+        ensures row { OnOk result (Steps self.old.shape (word_state self.old) (word_state self.new)) }
+        ensures safe { Safe self.new.shape (word_state self.new) }
+    {
         step_on(
             cpu as usize,
             self.hands.as_mut_slice(),
