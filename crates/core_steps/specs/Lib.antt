@@ -1,2 +1,4 @@
 pub mod Machine
 pub mod CoreState
+pub mod Moved
+pub mod StepsLeft

@@ -188,6 +188,7 @@ fn step_on(
 
 impl Core {
     ghost use Rattle.core_steps.specs.CoreState.{CoreState, IsCore, IsActor, IsOp, fresh, queued, ops_of, refused, stepped, word_state, total_of};
+    ghost use Rattle.core_steps.specs.StepsLeft.{steps_left, cpu_steps_left};
     ghost use Rattle.tag_model.specs.declared.state.Kind.TheVariants.{Bytes, Calls};
 
     /// All words are 0, no key holds anything, and nothing is queued.
@@ -239,6 +240,7 @@ impl Core {
         // A step that is taken is one of the step rules, and every state is safe.
         ensures row { OnOk result (Steps self.old.shape (word_state self.old) (word_state self.new)) }
         ensures safe { Safe self.new.shape (word_state self.new) }
+        ensures left { OnOk result (steps_left self.old actor ≡ steps_left self.new actor + 1) }
     {
         match actor {
             Actor::Cpu(cpu) => self.go_on(cpu),
@@ -251,6 +253,7 @@ impl Core {
         ensures err { OnErr result (self.new ≡ self.old) }
         ensures row { OnOk result (Steps self.old.shape (word_state self.old) (word_state self.new)) }
         ensures safe { Safe self.new.shape (word_state self.new) }
+        ensures left { OnOk result (cpu_steps_left self.old.machine cpu ≡ cpu_steps_left self.new.machine cpu + 1) }
     {
         step_on(
             cpu as usize,

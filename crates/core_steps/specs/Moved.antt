@@ -1,0 +1,23 @@
+-- The core that a machine and the moves of its CPUs so far give: each word is the sum of the moves on it.
+use Rattle.std.specs.Prelude.{ℕ, ◌+◌, ◌*◌, ◌/◌, ◌%◌, ◌==◌, if◌then◌else◌, List, map}
+use Rattle.std.specs.List.{range_with_len}
+use Rattle.tag_model.specs.declared.shape.Shape.{Shape}
+use Rattle.tag_model.specs.declared.state.Kind.{Kind}
+use Rattle.tag_model.specs.declared.state.Kind.TheVariants.{Bytes, Calls}
+use Rattle.tag_model.specs.Moves.{Move, moved_word}
+use Rattle.core_steps.specs.Machine.{Machine}
+use Rattle.core_steps.specs.CoreState.{CoreState}
+
+-- the kind of the word at a place of a CPU
+abbrev pub kind_at : ℕ → Kind
+kind_at place = if place % 2 == 0 then Bytes else Calls
+
+-- one CPU's words
+abbrev pub own_moved : ℕ → List Move → ℕ → List ℕ
+own_moved tags moves cpu = map (λ place. moved_word moves cpu (kind_at place) (place / 2)) (range_with_len 0 (2 * tags))
+
+unfoldable pub words_moved : ℕ → ℕ → List Move → List (List ℕ)
+words_moved cpus tags moves = map (own_moved tags moves) (range_with_len 0 cpus)
+
+abbrev pub core_of : Shape → ℕ → Machine → List Move → CoreState
+core_of shape kernel_len machine moves = record { shape = shape; kernel_len = kernel_len; machine = machine; words = words_moved shape.cpus shape.tags moves }
