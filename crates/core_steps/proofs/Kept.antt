@@ -233,7 +233,7 @@ pub record Gone (s : CoreState) (cpu : ℕ) : Type 0 where
   pub leads : Leads s.shape (word_state s) (state_of (after_step s.machine cpu) (words_after_step s.machine s.words cpu))
   pub core : IsCore (record s { machine = after_step s.machine cpu; words = words_after_step s.machine s.words cpu })
 
-nothing_past : (m : Machine) (cpu : ℕ) → length m.waiting ≤ cpu → refusal_of m cpu ≡ Some NoStep
+pub nothing_past : (m : Machine) (cpu : ℕ) → length m.waiting ≤ cpu → refusal_of m cpu ≡ Some NoStep
 nothing_past m cpu past = rw (get_or_past m.waiting cpu nothing_waits past) refl
 
 pub gone : (s : CoreState) (cpu : ℕ) → IsCore s → refusal_of s.machine cpu ≡ None → Gone s cpu
@@ -267,14 +267,14 @@ can_go s cpu core = record {
 -- ---- what `go` leaves, by its answer
 
 -- what a step answers
-abbrev Answers : Option StepRefused → Result Event StepRefused → Type 0
+abbrev pub Answers : Option StepRefused → Result Event StepRefused → Type 0
 Answers o r = MatchOption o (r ≡ Ok Stepped) (λ e. r ≡ Err e)
 
 result_none : (o : Option StepRefused) (e : Event) → Answers o (Ok e) → o ≡ None
 result_none None e h = refl
 result_none (Some r) e h = cc
 
-refusal_none : (s : CoreState) (cpu : ℕ) (e : Event) → Answers (refusal_of s.machine cpu) (Ok e) → refusal_of s.machine cpu ≡ None
+pub refusal_none : (s : CoreState) (cpu : ℕ) (e : Event) → Answers (refusal_of s.machine cpu) (Ok e) → refusal_of s.machine cpu ≡ None
 refusal_none s cpu e h = result_none (refusal_of s.machine cpu) e h
 
 module _ (s : CoreState) (cpu : ℕ) (hands : List (Option Hand)) (places : List Held) (waiting : List Waiting) (words : List (List ℕ)) (core : IsCore s) where

@@ -1,10 +1,11 @@
 -- The core that a machine and its moves give steps as the machine and its moves do.
-use Rattle.std.proofs.Common.{◌≡◌, ◌≢◌, ℕ, zero, suc, ◌+◌, ◌-◌, ◌*◌, ◌/◌, ◌%◌, ◌<◌, ◌≤◌, List, [], ◌∷◌, ◌++◌, length, get_or, set, map, replicate, refl, sym, ap, ◌∙◌, subst, arith, Option, Some, None, append-nil, sum_by}
+use Rattle.std.proofs.Common.{◌≡◌, ◌≢◌, ℕ, zero, suc, ◌+◌, ◌-◌, ◌*◌, ◌/◌, ◌%◌, ◌<◌, ◌≤◌, List, [], ◌∷◌, ◌++◌, length, get_or, set, map, replicate, refl, sym, ap, ◌∙◌, subst, arith, Option, Some, None, append-nil, sum_by, Result, Ok, Err, OnOk, MatchOption, inl, inr}
 use Rattle.std.proofs.lemmas.List.{set-get_or, same_lists, length-replicate, get_or-replicate}
 use Rattle.std.proofs.lemmas.List.FromFn.{length-map-range_with_len, get_or-map-range_with_len}
 use Rattle.std.specs.List.{range_with_len}
 use Rattle.tag_model.specs.declared.shape.Shape.{Shape}
 use Rattle.tag_model.specs.declared.state.Hand.{Hand}
+use Rattle.tag_model.specs.declared.state.Held.{Held}
 use Rattle.tag_model.specs.declared.state.Kind.{Kind}
 use Rattle.tag_model.specs.declared.state.Kind.TheVariants.{Bytes, Calls}
 use Rattle.tag_model.specs.Wrap.{wrap, wrap_minus}
@@ -15,11 +16,15 @@ use Rattle.core_steps.specs.declared.op.Op.{Op}
 use Rattle.core_steps.specs.declared.op.Actor.TheVariants as actor
 use Rattle.core_steps.specs.declared.step.WordStep.{WordStep}
 use Rattle.core_steps.specs.declared.step.WordStep.TheVariants.{BeginAllocation, AddBytes, Write}
-use Rattle.core_steps.specs.Machine.{Machine, Waiting, hand_at, waiting_at, step_of, words_after, moves_of, moves_in, moves_of_step, stepped_by, after_step, refusal_of, CanTake, HandInWords, raised_in_hand, move_in_hand}
+use Rattle.core_steps.specs.Machine.{Machine, Waiting, hand_at, waiting_at, step_of, words_after, moves_of, moves_in, moves_of_step, stepped_by, after_step, refusal_of, CanTake, HandInWords, raised_in_hand, move_in_hand, machine_of}
 use Rattle.core_steps.specs.CoreState.{CoreState, IsCore, words_at, words_stepped, words_after_step, stepped, fresh, fresh_machine, CanStep}
-use Rattle.core_steps.specs.Moved.{kind_at, own_moved, words_moved, core_of}
+use Rattle.core_steps.specs.Moved.{kind_at, own_moved, words_moved, core_of, HasMoved, moved_on}
 use Rattle.core_steps.proofs.MovedWords.{moved_one}
-use Rattle.core_steps.proofs.Kept.{can_go}
+use Rattle.core_steps.proofs.Kept.{can_go, refusal_none, nothing_past, Answers}
+use Rattle.std.proofs.lemmas.Bool.{cases_lt}
+use Rattle.core_steps.specs.declared.op.Event.{Event}
+use Rattle.core_steps.specs.declared.op.Event.TheVariants.{Stepped}
+use Rattle.core_steps.specs.declared.op.StepRefused.{StepRefused}
 
 own_at : (cpus tags : ℕ) (moves : List Move) (cpu : ℕ) → cpu < cpus → get_or (words_moved cpus tags moves) cpu [] ≡ own_moved tags moves cpu
 unfolding words_moved
@@ -77,3 +82,26 @@ core_of_fresh shape kernel_len =
   no_words c = same_lists _ _ (rw (length-replicate, length-map-range_with_len) refl) (λ p d l.
       let below : p < 2 * shape.tags = omega (arith, length-map-range_with_len (λ q. moved_word [] c (kind_at q) (q / 2)) 0 (2 * shape.tags)) in
       get_or-map-range_with_len (λ q. moved_word [] c (kind_at q) (q / 2)) 0 (2 * shape.tags) p p d below (omega arith) ∙ sym (get_or-replicate (2 * shape.tags) p 0 d below))
+
+-- what `go` leaves, by its answer, where the words are the sums of moves
+pub moved_after : (s : CoreState) (cpu : ℕ) (next : CoreState) (r : Result Event StepRefused) (moves : List Move) → IsCore s → MatchOption (refusal_of s.machine cpu) (r ≡ Ok Stepped) (λ e. r ≡ Err e)
+    → OnOk r (next ≡ stepped s (actor.Cpu cpu)) → HasMoved s moves → OnOk r (next ≡ moved_on s (actor.Cpu cpu) moves)
+moved_after s cpu next (Err e) moves core answer ok has = tt
+moved_after s cpu next (Ok e) moves core answer ok has = elim (cases_lt cpu s.shape.cpus) [
+    | inl below ↦
+      ok ∙ ap (λ (x : CoreState). stepped x (actor.Cpu cpu)) has
+      ∙ core_of_step s.shape s.kernel_len s.machine moves cpu (subst IsCore has core) below
+    | inr past ↦ let none = refusal_none s cpu e answer in let bad = nothing_past s.machine cpu (omega (arith, core.machine.waiting)) in cc
+    ]
+
+pub moved_lists : (s : CoreState) (cpu : ℕ) (hands : List (Option Hand)) (places : List Held) (waiting : List Waiting) (words : List (List ℕ)) (r : Result Event StepRefused) (moves : List Move)
+    → IsCore s → Answers (refusal_of s.machine cpu) r
+    → OnOk r ((machine_of hands places waiting ≡ after_step s.machine cpu) × (words ≡ words_after_step s.machine s.words cpu))
+    → HasMoved s moves → OnOk r (record s { machine = machine_of hands places waiting; words = words } ≡ moved_on s (actor.Cpu cpu) moves)
+moved_lists s cpu hands places waiting words r moves core answer ok has =
+    moved_after s cpu (record s { machine = machine_of hands places waiting; words = words }) r moves core answer (both r ok) has
+  where
+  both : (q : Result Event StepRefused) → OnOk q ((machine_of hands places waiting ≡ after_step s.machine cpu) × (words ≡ words_after_step s.machine s.words cpu))
+      → OnOk q (record s { machine = machine_of hands places waiting; words = words } ≡ stepped s (actor.Cpu cpu))
+  both (Ok e) f = ap (λ (m : Machine). record s { machine = m; words = words }) f.0 ∙ ap (λ (w : List (List ℕ)). record s { machine = after_step s.machine cpu; words = w }) f.1
+  both (Err e) f = tt

@@ -1,11 +1,13 @@
 -- The core that a machine and the moves of its CPUs so far give: each word is the sum of the moves on it.
-use Rattle.std.specs.Prelude.{ℕ, ◌+◌, ◌*◌, ◌/◌, ◌%◌, ◌==◌, if◌then◌else◌, List, map}
+use Rattle.std.specs.Prelude.{◌≡◌, ℕ, ◌++◌, ◌+◌, ◌*◌, ◌/◌, ◌%◌, ◌==◌, if◌then◌else◌, List, map}
 use Rattle.std.specs.List.{range_with_len}
 use Rattle.tag_model.specs.declared.shape.Shape.{Shape}
 use Rattle.tag_model.specs.declared.state.Kind.{Kind}
 use Rattle.tag_model.specs.declared.state.Kind.TheVariants.{Bytes, Calls}
 use Rattle.tag_model.specs.Moves.{Move, moved_word}
-use Rattle.core_steps.specs.Machine.{Machine}
+use Rattle.core_steps.specs.declared.op.Actor.{Actor}
+use Rattle.core_steps.specs.declared.op.Actor.TheVariants as actor
+use Rattle.core_steps.specs.Machine.{Machine, after_step, moves_of_step}
 use Rattle.core_steps.specs.CoreState.{CoreState}
 
 -- the kind of the word at a place of a CPU
@@ -21,3 +23,11 @@ words_moved cpus tags moves = map (own_moved tags moves) (range_with_len 0 cpus)
 
 abbrev pub core_of : Shape → ℕ → Machine → List Move → CoreState
 core_of shape kernel_len machine moves = record { shape = shape; kernel_len = kernel_len; machine = machine; words = words_moved shape.cpus shape.tags moves }
+
+-- the core's words are the sums of these moves
+abbrev pub HasMoved : CoreState → List Move → Type 0
+HasMoved s moves = s ≡ core_of s.shape s.kernel_len s.machine moves
+
+-- the core after the actor's next step, by its moves
+abbrev pub moved_on : CoreState → Actor → List Move → CoreState
+moved_on s (actor.Cpu cpu) moves = core_of s.shape s.kernel_len (after_step s.machine cpu) (moves ++ moves_of_step s.machine cpu)

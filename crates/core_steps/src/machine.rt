@@ -189,6 +189,8 @@ fn step_on(
 impl Core {
     ghost use Rattle.core_steps.specs.CoreState.{CoreState, IsCore, IsActor, IsOp, fresh, queued, ops_of, refused, stepped, word_state, total_of};
     ghost use Rattle.core_steps.specs.StepsLeft.{steps_left, cpu_steps_left};
+    ghost use Rattle.core_steps.specs.Moved.{HasMoved, moved_on};
+    ghost use Rattle.tag_model.specs.Moves.{Move};
     ghost use Rattle.tag_model.specs.declared.state.Kind.TheVariants.{Bytes, Calls};
 
     /// All words are 0, no key holds anything, and nothing is queued.
@@ -241,6 +243,8 @@ impl Core {
         ensures row { OnOk result (Steps self.old.shape (word_state self.old) (word_state self.new)) }
         ensures safe { Safe self.new.shape (word_state self.new) }
         ensures left { OnOk result (steps_left self.old actor ≡ steps_left self.new actor + 1) }
+        // Words stay the sums of the moves.
+        ensures moved { (moves : List Move) → HasMoved self.old moves → OnOk result (self.new ≡ moved_on self.old actor moves) }
     {
         match actor {
             Actor::Cpu(cpu) => self.go_on(cpu),
@@ -254,6 +258,7 @@ impl Core {
         ensures row { OnOk result (Steps self.old.shape (word_state self.old) (word_state self.new)) }
         ensures safe { Safe self.new.shape (word_state self.new) }
         ensures left { OnOk result (cpu_steps_left self.old.machine cpu ≡ cpu_steps_left self.new.machine cpu + 1) }
+        ensures moved { (moves : List Move) → HasMoved self.old moves → OnOk result (self.new ≡ moved_on self.old (Actor.Cpu cpu) moves) }
     {
         step_on(
             cpu as usize,

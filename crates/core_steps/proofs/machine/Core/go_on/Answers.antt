@@ -4,6 +4,7 @@ use Rattle.tag_model.specs.declared.state.Held.{Held}
 use Rattle.core_steps.specs.Machine.{machine_of, refusal_of}
 use Rattle.core_steps.specs.CoreState.{CoreState, IsCore, state_of}
 use Rattle.core_steps.proofs.Kept.{core_after, row_after, written}
+use Rattle.core_steps.proofs.Meaning.{moved_lists}
 use Rattle.core_steps.proofs.machine.Core.go_on.Goals as goal
 use Rattle.core_steps.proofs.machine.Core.go_on.Goals.{After-self-4-1}
 
@@ -46,5 +47,17 @@ returns-clause-row c =
         written c.self.inside.waiting.len c.step_on.new.waiting c.self.inside.waiting.items (omega arith),
         written c.self.inside.words.len c.step_on.new.words c.self.inside.words.items (omega arith))
     (row_after (before c) c.args.cpu c.step_on.new.hands c.step_on.new.places c.step_on.new.waiting c.step_on.new.words c.self.invariant c.step_on.result
+      (rw (c.as_mut_slice.ensures.value, c.as_mut_slice-2.ensures.value, c.as_mut_slice-3.ensures.value) at c.step_on.ensures.answer)
+      (rw (c.as_mut_slice.ensures.value, c.as_mut_slice-2.ensures.value, c.as_mut_slice-3.ensures.value, c.as_mut_slice-4.ensures.value) at c.step_on.ensures.ok))
+
+pub returns-clause-moved : goal.returns-clause-moved
+unfolding before
+returns-clause-moved c = λ moves.
+    rw (← c.self.view_is,
+        written c.self.inside.hands.len c.step_on.new.hands c.self.inside.hands.items (omega arith),
+        written c.self.inside.places.len c.step_on.new.places c.self.inside.places.items (omega arith),
+        written c.self.inside.waiting.len c.step_on.new.waiting c.self.inside.waiting.items (omega arith),
+        written c.self.inside.words.len c.step_on.new.words c.self.inside.words.items (omega arith))
+    (moved_lists (before c) c.args.cpu c.step_on.new.hands c.step_on.new.places c.step_on.new.waiting c.step_on.new.words c.step_on.result moves c.self.invariant
       (rw (c.as_mut_slice.ensures.value, c.as_mut_slice-2.ensures.value, c.as_mut_slice-3.ensures.value) at c.step_on.ensures.answer)
       (rw (c.as_mut_slice.ensures.value, c.as_mut_slice-2.ensures.value, c.as_mut_slice-3.ensures.value, c.as_mut_slice-4.ensures.value) at c.step_on.ensures.ok))
