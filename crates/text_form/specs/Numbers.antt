@@ -1,5 +1,5 @@
 -- Numbers as words.
-use Rattle.std.specs.Prelude.{ℕ, Bool, List, [], ◌∷◌, Option, Some, None, ◌==◌, ◌+◌, ◌-◌, ◌*◌, nat_le, ◌&&◌, if◌then◌else◌, length}
+use Rattle.std.specs.Prelude.{ℕ, Bool, List, [], ◌∷◌, Option, Some, None, ◌==◌, ◌+◌, ◌-◌, ◌*◌, nat_le, nat_lt, ◌&&◌, if◌then◌else◌, length}
 use Rattle.std.specs.Option.{option_and_then}
 
 -- one of `0` to `9`
@@ -19,3 +19,7 @@ number_value (b ∷ bs) = if b == 48 then (if length bs == 0 then Some 0 else No
 -- the number that a word spells, where it lies in the range
 abbrev pub number_in : ℕ → ℕ → List ℕ → Option ℕ
 number_in low high word = option_and_then (λ n. if nat_le low n && nat_le n high then Some n else None) (number_value word)
+
+-- the number that a word spells, where it is below the limit
+abbrev pub number_below : ℕ → List ℕ → Option ℕ
+number_below limit word = option_and_then (λ n. if nat_lt n limit then Some n else None) (number_value word)

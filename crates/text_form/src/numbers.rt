@@ -1,9 +1,9 @@
 //! Numbers as words.
 
-ghost use Rattle.std.specs.Prelude.{◌≡◌, ◌+◌, ◌*◌, ◌<◌, ◌≤◌, ◌^◌, ℕ, List, Some, MatchOption};
+ghost use Rattle.std.specs.Prelude.{◌≡◌, ◌+◌, ◌*◌, ◌<◌, ◌≤◌, ◌^◌, ℕ, List, Some, MatchOption, IfSome};
 ghost use Rattle.std.specs.Fmt.{decimal};
 ghost use Rattle.std.specs.Option.{SomeIff};
-ghost use Rattle.text_form.specs.Numbers.{number_after, number_in, number_value};
+ghost use Rattle.text_form.specs.Numbers.{number_after, number_below, number_in, number_value};
 
 // The number that digits spell, where it is below 2 ^ 64.
 fn digits_value(digits: &[u8]) -> Option<u64>
@@ -32,13 +32,29 @@ fn next_value(value: u64, digit: u8) -> Option<u64>
 
 /// The number that a word spells, where it lies in the range. A word may be longer than any number of the range.
 pub fn parse_number(word: &[u8], low: u64, high: u64) -> Option<u64>
-    ensures { result ≡ number_in low high word.now }
+    ensures value { result ≡ number_in low high word.now }
+    ensures range { IfSome result (λ n. (low ≤ n) × (n ≤ high)) }
 {
     match word {
         [] => None,
         [b'0', _, ..] => None,
         _ => match digits_value(word) {
             Some(value) if low <= value && value <= high => Some(value),
+            _ => None,
+        },
+    }
+}
+
+/// The number that a word spells, where it is below the limit.
+pub fn parse_below(word: &[u8], limit: u64) -> Option<u64>
+    ensures value { result ≡ number_below limit word.now }
+    ensures range { IfSome result (λ n. n < limit) }
+{
+    match word {
+        [] => None,
+        [b'0', _, ..] => None,
+        _ => match digits_value(word) {
+            Some(value) if value < limit => Some(value),
             _ => None,
         },
     }

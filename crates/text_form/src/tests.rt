@@ -44,5 +44,7 @@ fn numbers(rt: HostRuntime) -> Result<(), Fail> {
         Some(u64::MAX)
     );
     assert_eq!(rt; parse_number(b"18446744073709551616", 0, u64::MAX), None);
+    assert_eq!(rt; parse_below(b"3", 4), Some(3));
+    assert_eq!(rt; parse_below(b"4", 4), None);
     Ok(())
 }

@@ -1,0 +1,4 @@
+pub mod Codes
+pub mod Judging
+pub mod Words
+pub mod StepWords
