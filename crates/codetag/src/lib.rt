@@ -1,0 +1,13 @@
+//! Code tags: a place in a source file, the function around it, and the text that names both.
+#![tactic(auto)]
+
+pub mod names;
+pub mod tag;
+pub mod text;
+
+pub use names::{is_file, is_function};
+pub use tag::{CodeTag, TagError};
+pub use text::TagText;
+
+#[cfg(test)]
+mod tests;
