@@ -1,0 +1,4 @@
+pub mod ModuleName
+pub mod Section
+pub mod Numbers
+pub mod Refusals
