@@ -2,7 +2,16 @@
 #![tactic(auto)]
 
 mod code;
+mod forms;
+mod head;
+mod line_error;
+mod places;
+
+mod step_lines;
+mod step_reading;
 mod step_words;
+pub mod steps;
 mod words;
 
 pub use code::{Code, TextError};
+pub use step_reading::read_steps;
