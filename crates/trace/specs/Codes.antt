@@ -1,5 +1,5 @@
 -- The text of each code.
-use Rattle.std.specs.Prelude.{ℕ, List, [], ◌++◌, codes, decimal}
+use Rattle.std.specs.Prelude.{ℕ, ◌<◌, ⊤, List, [], ◌++◌, codes, decimal}
 use Rattle.std.specs.List.{slice_index_or}
 use Rattle.trace.specs.declared.code.Code.{Code}
 use Rattle.trace.specs.declared.code.Code.TheVariants as code
@@ -117,3 +117,9 @@ argument_text names (Module section) = codes " " ++ slice_index_or names section
 
 unfoldable pub code_text : List (List ℕ) → Code → List ℕ
 code_text names c = code_word c ++ argument_text names (argument_of c)
+
+-- a module of an argument is one of so many sections
+abbrev pub IsArgument : Argument → ℕ → Type 0
+IsArgument Nothing count = ⊤
+IsArgument (Number n) count = ⊤
+IsArgument (Module section) count = section < count

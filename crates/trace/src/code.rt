@@ -1,6 +1,8 @@
 //! What an input is refused with.
 
+use itoa::Buffer;
 use std::alloc::AllocError;
+use tag_section::Sections;
 use thiserror::Error;
 
 /// Why a line is refused. The number of a code is a key, the number of a module's section, or a count.
@@ -126,8 +128,47 @@ pub(crate) enum Argument {
 }
 
 impl Code {
-    ghost use Rattle.std.specs.Prelude.{◌≡◌};
-    ghost use Rattle.trace.specs.Codes.{code_word, argument_of};
+    ghost use Rattle.std.specs.Prelude.{◌≡◌, ◌++◌, ◌<◌, length, OnOk, OnErr};
+    ghost use Rattle.codetag.specs.Prefix.{IsPrefix};
+    ghost use Rattle.tag_section.specs.Section.{names_of};
+    ghost use Rattle.trace.specs.Codes.{code_word, argument_of, code_text, IsArgument};
+
+    /// Appends the text. The number of a module is that of its section.
+    pub fn to_text(&self, sections: &Sections, out: &mut Vec<u8>) -> Result<(), AllocError>
+        requires { IsArgument (argument_of self.now) (length sections.now) }
+        ensures ok { OnOk result
+            (out.new.items ≡ out.old.items ++ code_text (names_of sections.now) self.now) }
+        ensures err { OnErr result (out.new.items ≡ out.old.items) }
+    {
+        let before = out.len();
+        let done = self.append(sections, out);
+        if done.is_err() {
+            out.truncate(before);
+        }
+        done
+    }
+
+    // Appends the text, or a front of it.
+    #[tactic(auto, using(std::proofs::lemmas::Grind::common_steps), unfolding(crate::specs::Codes::code_text))]
+    fn append(&self, sections: &Sections, out: &mut Vec<u8>) -> Result<(), AllocError>
+        requires { IsArgument (argument_of self.now) (length sections.now) }
+        ensures ok { OnOk result
+            (out.new.items ≡ out.old.items ++ code_text (names_of sections.now) self.now) }
+        ensures err { OnErr result (IsPrefix out.old.items out.new.items) }
+    {
+        out.extend_from_slice(self.word())?;
+        match self.argument() {
+            Argument::Nothing => Ok(()),
+            Argument::Number(number) => {
+                out.extend_from_slice(b" ")?;
+                out.extend_from_slice(Buffer::new().format(number).as_bytes())
+            }
+            Argument::Module(section) => {
+                out.extend_from_slice(b" ")?;
+                out.extend_from_slice(sections.name(section))
+            }
+        }
+    }
 
     pub(crate) fn word(&self) -> &'static [u8]
         ensures { result.now ≡ code_word self.now }
