@@ -1,7 +1,5 @@
 -- What a section or a tag more is, by what `Sections` and `CodeTag` say of it.
-use Rattle.std.proofs.Common.{◌≡◌, ℕ, ◌-◌, ◌<◌, ◌≤◌, Bool, true, false, not, eqb, List, [], ◌∷◌, length, Option, Some, None, is_none, Result, Ok, Err, unwrap_or, IsTrue, IsSome, IsNone, IfSome, refl, sym, ap, ◌∙◌, subst, arith}
-use Rattle.std.specs.Bool.{⊤}
-use Rattle.std.specs.Option.{ok_or}
+use Rattle.std.proofs.Common.{◌≡◌, ℕ, ◌-◌, ◌<◌, ◌≤◌, Bool, true, false, not, eqb, List, [], ◌∷◌, length, Option, Some, None, is_none, Result, Ok, Err, unwrap_or, IsSome, IsNone, IfSome, ap, ◌∙◌, arith}
 use Rattle.std.proofs.lemmas.Bool.{false_from_ne_true, eqb-true, eq-eqb}
 use Rattle.codetag.specs.Names.{is_file, is_function, IsFile, IsLine, IsFunction}
 use Rattle.codetag.specs.TagParts.{TagParts}
@@ -9,7 +7,7 @@ use Rattle.tag_section.specs.ModuleName.{is_module_name, IsModuleName}
 use Rattle.tag_section.specs.Section.{Section, section_at, number_of, with_section, with_tag, tag_limit, MayBegin}
 use Rattle.trace.specs.declared.code.Code.{Code}
 use Rattle.trace.specs.declared.code.Code.TheVariants as code
-use Rattle.trace.specs.Judging.{◌>>=◌, ◌>>◌, need}
+use Rattle.trace.specs.Judging.{◌>>◌, need}
 use Rattle.trace.specs.Head.{begun, added, tag_of}
 
 -- a check that holds, and one that fails

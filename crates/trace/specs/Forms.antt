@@ -1,5 +1,5 @@
 -- The form of every line.
-use Rattle.std.specs.Prelude.{ℕ, List, [], ◌∷◌, length, Bool, ◌==◌, nat_le, ◌||◌, Result, Ok, Err, if◌then◌else◌, codes, slice_index, ⊤}
+use Rattle.std.specs.Prelude.{ℕ, List, [], ◌∷◌, length, Bool, ◌==◌, nat_le, ◌||◌, Result, Ok, Err, if◌then◌else◌, slice_index, ⊤}
 use Rattle.std.specs.List.{list_all}
 use Rattle.text_form.specs.Lines.{is_form_byte}
 use Rattle.trace.specs.declared.code.Code.{Code}

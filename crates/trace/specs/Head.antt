@@ -1,5 +1,5 @@
 -- The sizes and the sections, which stand before the body.
-use Rattle.std.specs.Prelude.{ℕ, ◌≡◌, ◌-◌, ◌==◌, Bool, ◌&&◌, not, nat_lt, nat_le, List, [], length, Option, Some, None, is_none, unwrap_or, Result, Ok, Err, ⊤, codes}
+use Rattle.std.specs.Prelude.{ℕ, ◌-◌, ◌==◌, Bool, ◌&&◌, not, nat_lt, List, [], length, Option, Some, None, is_none, unwrap_or, Result, Ok, ⊤}
 use Rattle.std.specs.Option.{ok_or}
 use Rattle.codetag.specs.Names.{is_file, is_function}
 use Rattle.codetag.specs.TagParts.{TagParts}

@@ -8,7 +8,6 @@ use Rattle.trace.specs.declared.line_error.LineError.TheVariants as line
 
 infixl 10 ◌>>=◌
 infixl 10 ◌>>◌
-
 abbrev pub ◌>>=◌ : {A B E : Type 0} → Result A E → (A → Result B E) → Result B E
 (Ok x) >>= f = f x
 (Err code) >>= f = Err code

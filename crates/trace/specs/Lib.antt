@@ -3,7 +3,6 @@ pub mod Judging
 pub mod Words
 pub mod Forms
 pub mod Places
-
 pub mod Head
 pub mod StepWords
 pub mod StepGrammar

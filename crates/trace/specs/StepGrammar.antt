@@ -1,5 +1,5 @@
 -- The lines of a schedule's body.
-use Rattle.std.specs.Prelude.{ℕ, ◌+◌, ◌-◌, ◌==◌, Bool, true, false, ◌&&◌, not, nat_le, List, length, Option, Some, None, Result, Ok, Err, codes, if◌then◌else◌}
+use Rattle.std.specs.Prelude.{ℕ, ◌+◌, ◌-◌, ◌==◌, Bool, true, false, ◌&&◌, not, nat_le, List, length, Option, Some, None, Result, Ok, codes, if◌then◌else◌}
 use Rattle.tag_section.specs.Section.{Section}
 use Rattle.text_form.specs.Words.{words_of, word_at}
 use Rattle.trace.specs.declared.code.Code.{Code}

@@ -1,5 +1,5 @@
 -- How a schedule is read: a fold over its lines.
-use Rattle.std.specs.Prelude.{ℕ, ◌+◌, ◌==◌, Bool, not, nat_lt, List, [], ◌∷◌, ◌++◌, length, drop, Option, Some, None, unwrap_or, Result, Ok, Err, codes, if◌then◌else◌, ⊤}
+use Rattle.std.specs.Prelude.{ℕ, ◌+◌, ◌==◌, Bool, not, nat_lt, List, [], ◌∷◌, ◌++◌, length, drop, unwrap_or, Result, Ok, codes, if◌then◌else◌}
 use Rattle.text_form.specs.Lines.{lines_of, tail_of}
 use Rattle.text_form.specs.Words.{words_of, word_at, has_empty_word}
 use Rattle.trace.specs.declared.code.Code.{Code}

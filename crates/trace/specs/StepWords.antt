@@ -1,7 +1,5 @@
 -- The words of the step language that say what a line is.
-use Rattle.std.specs.Prelude.{ℕ, List, [], ◌∷◌, Result, codes, if◌then◌else◌, Ok, Err}
-use Rattle.std.specs.List.{find}
-use Rattle.std.specs.Option.{ok_or}
+use Rattle.std.specs.Prelude.{ℕ, List, Result, codes, if◌then◌else◌, Ok, Err}
 use Rattle.trace.specs.declared.code.Code.{Code}
 use Rattle.trace.specs.declared.code.Code.TheVariants.{Word}
 use Rattle.trace.specs.declared.step_words.StepKeyword.{StepKeyword}

@@ -1,5 +1,5 @@
 -- What the words of both languages stand for.
-use Rattle.std.specs.Prelude.{ℕ, List, Result, codes, Bool}
+use Rattle.std.specs.Prelude.{ℕ, List, Result, Bool}
 use Rattle.std.specs.Option.{ok_or}
 use Rattle.std.specs.Str.{bytes_eq}
 use Rattle.text_form.specs.Numbers.{number_in, number_below}

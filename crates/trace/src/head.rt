@@ -200,7 +200,12 @@ fn add(sections: &mut Sections, tag: CodeTag) -> Result<(), LineError>
 
 /// `tag FILE LINE FUNCTION`
 #[tactic(auto, unfolding(crate::specs::Head::tag_line))]
-pub(crate) fn tag_line(alloc: Global, head: &mut Head, in_body: bool, line: &[u8]) -> Result<(), LineError>
+pub(crate) fn tag_line(
+    alloc: Global,
+    head: &mut Head,
+    in_body: bool,
+    line: &[u8],
+) -> Result<(), LineError>
     ensures { Leaves result head.new (tag_line in_body line.now head.old) }
 {
     need(head.sections.count() > 0 && !in_body, Code::Order)?;

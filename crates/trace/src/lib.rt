@@ -6,7 +6,6 @@ mod forms;
 mod head;
 mod line_error;
 mod places;
-
 mod step_lines;
 mod step_reading;
 mod step_words;

@@ -7,7 +7,9 @@ ghost use Rattle.trace.specs.StepReading.{empty_reading, in_body, keyword_line, 
 
 use crate::code::{Code, TextError};
 use crate::forms::{first_line, is_skipped, line_form, tail_form};
-use crate::head::{Head, Size, cpus_of, empty_head, kernel_line, module_line, section_form, size_line, tag_line};
+use crate::head::{
+    Head, Size, cpus_of, empty_head, kernel_line, module_line, section_form, size_line, tag_line,
+};
 use crate::line_error::LineError;
 use crate::step_lines::{do_line, go_line, words_line};
 use crate::step_words::{StepKeyword, step_keyword};

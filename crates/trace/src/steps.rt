@@ -54,10 +54,19 @@ pub enum StepOp {
 /// What a body line asks for. A count of None is `all`.
 #[derive(Clone, Copy, Debug, PartialEq, Eq)]
 pub enum StepAct {
-    Do { actor: StepActor, op: StepOp },
-    Go { actor: StepActor, count: Option<u32> },
+    Do {
+        actor: StepActor,
+        op: StepOp,
+    },
+    Go {
+        actor: StepActor,
+        count: Option<u32>,
+    },
     Print,
-    Words { section: u32, index: u32 },
+    Words {
+        section: u32,
+        index: u32,
+    },
 }
 
 /// A body line, with its number in the input.

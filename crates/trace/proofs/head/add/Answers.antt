@@ -1,4 +1,4 @@
-use Rattle.std.proofs.Common.{◌≡◌, Ok, Err, sym, ap, ◌∙◌}
+use Rattle.std.proofs.Common.{Ok, Err, sym, ap, ◌∙◌}
 use Rattle.trace.proofs.Sections.{added_ok, added_many}
 use Rattle.trace.proofs.head.add.Goals as goal
 

@@ -1,4 +1,4 @@
-use Rattle.std.proofs.Common.{◌≡◌, Ok, Err, sym, ap, ◌∙◌}
+use Rattle.std.proofs.Common.{Ok, Err, sym, ap, ◌∙◌}
 use Rattle.trace.proofs.Sections.{begun_ok, begun_bad, begun_same, begun_many}
 use Rattle.trace.proofs.head.begin.Goals as goal
 

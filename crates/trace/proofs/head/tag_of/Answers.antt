@@ -1,4 +1,4 @@
-use Rattle.std.proofs.Common.{◌≡◌, ℕ, Ok, Err, sym, ap, ◌∙◌}
+use Rattle.std.proofs.Common.{ℕ, Ok, Err, sym, ap, ◌∙◌}
 use Rattle.codetag.specs.TagParts.{TagParts}
 use Rattle.trace.proofs.Sections.{tag_of_ok, tag_of_bad_file, tag_of_bad_line, tag_of_bad_function}
 use Rattle.trace.proofs.head.tag_of.Goals as goal
@@ -8,7 +8,7 @@ returns-in-Ok c =
     let formed = c.in-Ok.ensures.formed in
     tag_of_ok c.args.file.now c.args.function.now c.args.line formed.0 (rw c.unwrap_or.ensures at formed.1) formed.2
     ∙ (let with_line : ℕ → TagParts = λ n. record { file = c.args.file.now; line = n; function = c.args.function.now } in
-      sym (ap Ok (c.in-Ok.ensures.parts ∙ ap with_line c.unwrap_or.ensures)))
+    sym (ap Ok (c.in-Ok.ensures.parts ∙ ap with_line c.unwrap_or.ensures)))
 
 pub returns-in-Err-BadFile : goal.returns-in-Err-BadFile
 returns-in-Err-BadFile c =

@@ -1,4 +1,4 @@
-use Rattle.std.proofs.Common.{ℕ, eqb, sym, ◌∙◌}
+use Rattle.std.proofs.Common.{eqb, sym, ◌∙◌}
 use Rattle.trace.proofs.Colons.{found_before, found_after, none_before, none_after}
 use Rattle.trace.proofs.places.split_at_colon.Goals as goal
 
