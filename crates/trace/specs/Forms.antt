@@ -1,0 +1,32 @@
+-- The form of every line.
+use Rattle.std.specs.Prelude.{ℕ, List, [], ◌∷◌, length, Bool, ◌==◌, nat_le, ◌||◌, Result, Ok, Err, if◌then◌else◌, slice_index, ⊤}
+use Rattle.std.specs.List.{list_all}
+use Rattle.text_form.specs.Lines.{is_form_byte}
+use Rattle.trace.specs.declared.code.Code.{Code}
+use Rattle.trace.specs.declared.code.Code.TheVariants as code
+use Rattle.trace.specs.Judging.{◌>>◌, need}
+use Rattle.trace.specs.Words.{is_word}
+
+-- a line with its newline; comments and empty lines too
+unfoldable pub line_form : ℕ → List ℕ → Result ⊤ Code
+line_form number line = do
+  need (nat_le number 131072) code.Lines
+  need (nat_le (length line) 300) code.Long
+  need (list_all is_form_byte line) code.Byte
+
+-- what stands behind the last newline
+unfoldable pub tail_form : ℕ → List ℕ → Result ⊤ Code
+tail_form number tail = if length tail == 0 then Ok tt else if nat_le number 131072 then Err code.Cut else Err code.Lines
+
+-- an empty line, or one that begins with `#`
+unfoldable pub is_skipped : List ℕ → Bool
+is_skipped line = length line == 0 || slice_index line 0 == 35
+
+-- the first line is the header
+unfoldable pub first_line : List ℕ → List (List ℕ) → List ℕ → Result ⊤ Code
+first_line header [] tail = do
+  tail_form 1 tail
+  Err code.Header
+first_line header (line ∷ lines) tail = do
+  line_form 1 line
+  need (is_word header line) code.Header

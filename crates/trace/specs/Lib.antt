@@ -1,0 +1,9 @@
+pub mod Codes
+pub mod Judging
+pub mod Words
+pub mod Forms
+pub mod Places
+pub mod Head
+pub mod StepWords
+pub mod StepGrammar
+pub mod StepReading

@@ -1,0 +1,68 @@
+//! The form of every line.
+
+ghost use Rattle.std.specs.Prelude.{◌≡◌, ◌<◌, Ok, Err, drop, length, MatchResult, IfOk};
+ghost use Rattle.text_form.specs.Lines.{lines_of, tail_of};
+ghost use Rattle.trace.specs.Forms.{is_skipped, line_form, tail_form, first_line};
+
+use crate::code::Code;
+use crate::words::{is_word, need};
+use text_form::{has_form_bytes, next_line};
+
+/// The most lines of an input.
+pub(crate) const LINE_LIMIT: u32 = 131_072;
+
+/// The most bytes of a line, without its newline.
+const LENGTH_LIMIT: usize = 300;
+
+/// A line that a newline ends.
+#[tactic(auto, unfolding(crate::specs::Forms::line_form))]
+pub(crate) fn line_form(number: u32, line: &[u8]) -> Result<(), Code>
+    ensures { result ≡ line_form number line.now }
+{
+    need(number <= LINE_LIMIT, Code::Lines)?;
+    need(line.len() <= LENGTH_LIMIT, Code::Long)?;
+    need(has_form_bytes(line), Code::Byte)
+}
+
+/// What stands behind the last newline.
+#[tactic(auto, unfolding(crate::specs::Forms::tail_form))]
+pub(crate) fn tail_form(number: u32, tail: &[u8]) -> Result<(), Code>
+    ensures { result ≡ tail_form number tail.now }
+{
+    if tail.is_empty() {
+        Ok(())
+    } else if number <= LINE_LIMIT {
+        Err(Code::Cut)
+    } else {
+        Err(Code::Lines)
+    }
+}
+
+/// Whether a line is empty or a comment.
+#[tactic(auto, unfolding(crate::specs::Forms::is_skipped))]
+pub(crate) fn is_skipped(line: &[u8]) -> bool
+    ensures { result ≡ is_skipped line.now }
+{
+    line.is_empty() || line[0] == b'#'
+}
+
+/// The first line, which is the header. Gives the text behind it.
+#[tactic(auto, unfolding(crate::specs::Forms::first_line))]
+pub(crate) fn first_line<'a>(header: &[u8], text: &'a [u8]) -> Result<&'a [u8], Code>
+    ensures judged { MatchResult result
+        (λ rest. first_line header.now (lines_of text.now) (tail_of text.now) ≡ Ok tt)
+        (λ code. first_line header.now (lines_of text.now) (tail_of text.now) ≡ Err code) }
+    ensures rest { IfOk result (λ rest. (lines_of rest.now ≡ drop 1 (lines_of text.now)) × (tail_of rest.now ≡ tail_of text.now) × (length rest.now < length text.now)) }
+{
+    match next_line(text) {
+        None => {
+            tail_form(1, text)?;
+            Err(Code::Header)
+        }
+        Some((line, rest)) => {
+            line_form(1, line)?;
+            need(is_word(line, header), Code::Header)?;
+            Ok(rest)
+        }
+    }
+}
