@@ -1,0 +1,30 @@
+-- What a schedule prints of the moves so far.
+use Rattle.std.specs.Prelude.{ℕ, List, [], ◌∷◌, ◌++◌, length, map, sum_by, codes, decimal}
+use Rattle.std.specs.List.{range_with_len, flat_map}
+use Rattle.tag_model.specs.declared.shape.Shape.{Shape}
+use Rattle.tag_model.specs.declared.state.Kind.{Kind}
+use Rattle.tag_model.specs.declared.state.Kind.TheVariants.{Bytes, Calls}
+use Rattle.tag_model.specs.Wrap.{wrap}
+use Rattle.tag_model.specs.Moves.{Move, moved_word}
+use Rattle.tag_section.specs.Section.{Section, section_at}
+
+-- the sizes and the sections that a schedule is about
+pub record Setting : Type 0 where
+  pub shape : Shape
+  pub sections : List Section
+
+-- `cpu C bytes B calls K`
+abbrev pub cpu_line : List Move → ℕ → ℕ → List ℕ
+cpu_line moves tag cpu = codes "cpu " ++ decimal cpu ++ codes " bytes " ++ decimal (moved_word moves cpu Bytes tag) ++ codes " calls " ++ decimal (moved_word moves cpu Calls tag) ++ 10 ∷ []
+
+-- each CPU's words of a tag
+abbrev pub words_text : ℕ → List Move → ℕ → List ℕ
+words_text cpus moves tag = flat_map (cpu_line moves tag) (range_with_len 0 cpus)
+
+-- the words of a kind of a tag, added over the CPUs
+abbrev pub total_moved : ℕ → List Move → Kind → ℕ → ℕ
+total_moved cpus moves kind tag = wrap (sum_by (λ cpu. moved_word moves cpu kind tag) (range_with_len 0 cpus))
+
+-- allocinfo of the sums
+abbrev pub allocinfo_text : Setting → List Move → List ℕ
+allocinfo_text s moves = []

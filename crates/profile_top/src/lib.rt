@@ -1,0 +1,6 @@
+//! The top calls: bytes in, bytes out.
+#![tactic(auto)]
+
+mod act;
+mod play;
+
