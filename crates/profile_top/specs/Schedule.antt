@@ -1,5 +1,5 @@
 -- What a schedule means: a fold over its lines that keeps the machine, the moves of all steps so far and the text so far. It has no words: a word is the sum of the moves on it.
-use Rattle.std.specs.Prelude.{◌≡◌, ℕ, zero, suc, ◌+◌, ◌<◌, ◌≤◌, ◌==◌, nat_lt, Bool, Option, Some, None, Result, Ok, Err, List, [], ◌∷◌, ◌++◌, length, map, sum_by, slice_set, if◌then◌else◌, codes, decimal, ⊤, ⊥}
+use Rattle.std.specs.Prelude.{◌≡◌, ℕ, zero, suc, ◌+◌, ◌<◌, ◌≤◌, ◌==◌, nat_lt, Bool, Option, Some, None, Result, Ok, Err, List, [], ◌∷◌, ◌++◌, length, map, sum_by, slice_set, if◌then◌else◌, codes, decimal, ⊤}
 use Rattle.std.specs.List.{range_with_len, flat_map}
 use Rattle.tag_model.specs.declared.shape.Shape.{Shape}
 use Rattle.tag_model.specs.declared.state.Kind.{Kind}
@@ -16,40 +16,38 @@ use Rattle.core_steps.specs.Machine.{Machine, waiting_at, refusal_of, after_step
 use Rattle.core_steps.specs.CoreState.{CoreState, with_op, IsOp}
 use Rattle.core_steps.specs.Moved.{core_of}
 use Rattle.core_steps.specs.StepsLeft.{cpu_steps_left}
+use Rattle.trace.specs.declared.code.Code.{Code}
+use Rattle.trace.specs.declared.code.Code.TheVariants as code
+use Rattle.trace.specs.declared.steps.StepLine.{StepLine}
+use Rattle.trace.specs.Judging.{◌>>=◌, at}
+use Rattle.profile_top.specs.Acts.{act_of, code_of}
+use Rattle.profile_top.specs.declared.act.ActError.{ActError}
+use Rattle.profile_top.specs.declared.act.ActError.TheVariants as error
 use Rattle.profile_top.specs.declared.act.Act.{Act}
 use Rattle.profile_top.specs.declared.act.Act.TheVariants as act
 use Rattle.tag_model.specs.Shape.{IsChecked}
 use Rattle.profile_top.specs.Printed.{Setting, allocinfo_text, words_text}
-use Rattle.profile_top.specs.declared.act.PlayError.{PlayError}
-use Rattle.profile_top.specs.declared.act.PlayError.TheVariants as error
-use Rattle.profile_top.specs.declared.act.Refusal.{Refusal}
-use Rattle.profile_top.specs.declared.act.Refusal.TheVariants.{QueueFull, Step}
 
 pub record Played : Type 0 where
   pub machine : Machine
   pub moves : List Move
   pub text : List ℕ
 
-infixl 10 ◌>>=◌
-abbrev pub ◌>>=◌ : {A B : Type 0} → Result A Refusal → (A → Result B Refusal) → Result B Refusal
-(Ok x) >>= f = f x
-(Err e) >>= f = Err e
-
 -- ---- steps
 
 abbrev pub with_step : ℕ → Played → Played
 with_step cpu p = record p { machine = after_step p.machine cpu; moves = p.moves ++ moves_of_step p.machine cpu }
 
-abbrev pub unless_refused : Option StepRefused → Played → Result Played Refusal
+abbrev pub unless_refused : Option StepRefused → Played → Result Played Code
 unless_refused None p = Ok p
-unless_refused (Some why) p = Err (Step why)
+unless_refused (Some why) p = Err (code_of why)
 
 -- one step of a CPU
-abbrev pub one_step : ℕ → Played → Result Played Refusal
+abbrev pub one_step : ℕ → Played → Result Played Code
 one_step cpu p = unless_refused (refusal_of p.machine cpu) (with_step cpu p)
 
 -- so many steps, up to the first that is refused
-abbrev pub steps_taken : ℕ → ℕ → Played → Result Played Refusal
+abbrev pub steps_taken : ℕ → ℕ → Played → Result Played Code
 steps_taken cpu zero p = Ok p
 steps_taken cpu (suc n) p = one_step cpu p >>= steps_taken cpu n
 
@@ -64,13 +62,13 @@ count_of (Some n) left = n
 abbrev pub with_queued : ℕ → Op → Played → Played
 with_queued cpu op p = record p { machine = record p.machine { waiting = slice_set p.machine.waiting cpu (with_op (waiting_at p.machine cpu) op) } }
 
-abbrev pub queues_op : ℕ → Op → Played → Result Played Refusal
-queues_op cpu op p = if nat_lt (length (waiting_at p.machine cpu).ops) MAX_QUEUED then Ok (with_queued cpu op p) else Err QueueFull
+abbrev pub queues_op : ℕ → Op → Played → Result Played Code
+queues_op cpu op p = if nat_lt (length (waiting_at p.machine cpu).ops) MAX_QUEUED then Ok (with_queued cpu op p) else Err code.Queue
 
-abbrev pub queues_on : Actor → Op → Played → Result Played Refusal
+abbrev pub queues_on : Actor → Op → Played → Result Played Code
 queues_on (actor.Cpu cpu) op p = queues_op cpu op p
 
-abbrev pub steps_on : Actor → ℕ → Played → Result Played Refusal
+abbrev pub steps_on : Actor → ℕ → Played → Result Played Code
 steps_on (actor.Cpu cpu) n p = steps_taken cpu n p
 
 -- how many steps a `go` line asks for
@@ -81,21 +79,36 @@ abbrev pub with_text : List ℕ → Played → Played
 with_text more p = record p { text = p.text ++ more }
 
 -- what a line does
-abbrev pub act_on : Setting → Act → Played → Result Played Refusal
+abbrev pub act_on : Setting → Act → Played → Result Played Code
 act_on s (act.Do who op) p = queues_on who op p
 act_on s (act.Go who count) p = steps_on who (asked who count p) p
 act_on s act.Print p = Ok (with_text (allocinfo_text s p.moves) p)
 act_on s (act.Words section index) p = Ok (with_text (words_text s.shape.cpus p.moves index) p)
 
+-- a line whose op isn't built yet is refused
+abbrev pub asks : Setting → Option Act → Played → Result Played Code
+asks s None p = Err code.NotBuilt
+asks s (Some a) p = act_on s a p
+
+infixl 10 ◌then◌
+abbrev pub ◌then◌ : Result Played (ℕ × Code) → (Played → Result Played (ℕ × Code)) → Result Played (ℕ × Code)
+(Ok p) then f = f p
+(Err why) then f = Err why
+
+-- the lines in their order, up to the first that is refused
+abbrev pub play : Setting → List StepLine → Played → Result Played (ℕ × Code)
+play s [] p = Ok p
+play s (line ∷ lines) p = at line.line (asks s (act_of line.act) p) then (play s lines)
+
 -- ---- a core that plays
 
 -- the core and the text are those of what was played
-pub record Shows (s : Setting) (core : CoreState) (text : List ℕ) (p : Played) : Type 0 where
-  pub core : core ≡ core_of s.shape (length (section_at s.sections 0).tags) p.machine p.moves
-  pub text : text ≡ p.text
+pub record Shows (s : Setting) (now : CoreState) (written : List ℕ) (p : Played) : Type 0 where
+  pub core : now ≡ core_of s.shape (length (section_at s.sections 0).tags) p.machine p.moves
+  pub text : written ≡ p.text
 
 -- A call left what the meaning says, unless memory ran out; a refusal is the meaning's.
-abbrev pub Follows : {X : Type 0} → Setting → Result X PlayError → CoreState → List ℕ → Result Played Refusal → Type 0
+abbrev pub Follows : {X : Type 0} → Setting → Result X ActError → CoreState → List ℕ → Result Played Code → Type 0
 Follows s (Ok x) core text (Ok p) = Shows s core text p
 Follows s (Ok x) core text (Err why) = ⊥
 Follows s (Err (error.Refused why)) core text meant = meant ≡ Err why
@@ -108,7 +121,7 @@ IsAct s (act.Go (actor.Cpu cpu) count) = ⊤
 IsAct s act.Print = ⊤
 IsAct s (act.Words section index) = index < length (section_at s.sections 0).tags
 
--- the sections are the kernel's alone, within the shape
+-- the kernel's section fits the shape
 pub record IsSetting (s : Setting) : Type 0 where
   pub kernel : 0 < length s.sections
   pub some_tag : 0 < length (section_at s.sections 0).tags

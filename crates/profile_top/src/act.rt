@@ -1,7 +1,12 @@
 //! What a line of a schedule asks of the core.
 
+ghost use Rattle.std.specs.Prelude.{◌≡◌};
+ghost use Rattle.profile_top.specs.Acts.{actor_of, op_of, act_of, code_of};
+
 use core_steps::op::{Actor, Op, StepRefused};
 use std::alloc::AllocError;
+use trace::Code;
+use trace::steps::{StepAct, StepActor, StepOp};
 
 /// What a line asks for. A count of None is `all`.
 #[derive(Clone, Copy, Debug, PartialEq, Eq)]
@@ -12,27 +17,77 @@ pub(crate) enum Act {
     Words { section: u32, index: u32 },
 }
 
-/// Why a line is refused.
-#[derive(Clone, Copy, Debug, PartialEq, Eq)]
-pub(crate) enum Refusal {
-    QueueFull,
-    Step(StepRefused),
-}
-
 /// Why a line isn't played.
 #[derive(Debug, Drop)]
-pub(crate) enum PlayError {
-    Refused(Refusal),
+pub(crate) enum ActError {
+    Refused(Code),
     Memory(AllocError),
 }
 
-impl From<AllocError> for PlayError {
+impl From<AllocError> for ActError {
     ghost use Rattle.std.specs.Prelude.{◌≡◌};
-    ghost use Rattle.profile_top.specs.declared.act.PlayError.TheVariants.{Memory};
+    ghost use Rattle.profile_top.specs.declared.act.ActError.TheVariants.{Memory};
 
     ghost from_gives = { λ cause error. error ≡ Memory cause };
 
-    fn from(cause: AllocError) -> PlayError {
-        PlayError::Memory(cause)
+    fn from(cause: AllocError) -> ActError {
+        ActError::Memory(cause)
+    }
+}
+
+fn actor_of(actor: StepActor) -> Option<Actor>
+    ensures { result ≡ actor_of actor }
+{
+    match actor {
+        StepActor::Cpu(cpu) => Some(Actor::Cpu(cpu)),
+        StepActor::Manager => None,
+    }
+}
+
+fn op_of(op: StepOp) -> Option<Op>
+    ensures { result ≡ op_of op }
+{
+    match op {
+        StepOp::Open {
+            key,
+            section,
+            index,
+            size,
+        } => Some(Op::Open {
+            key,
+            section,
+            index,
+            size,
+        }),
+        _ => None,
+    }
+}
+
+/// What the core is asked for. None where it isn't built yet.
+pub(crate) fn act_of(act: StepAct) -> Option<Act>
+    ensures { result ≡ act_of act }
+{
+    match act {
+        StepAct::Do { actor, op } => {
+            let actor = actor_of(actor)?;
+            let op = op_of(op)?;
+            Some(Act::Do { actor, op })
+        }
+        StepAct::Go { actor, count } => {
+            let actor = actor_of(actor)?;
+            Some(Act::Go { actor, count })
+        }
+        StepAct::Print => Some(Act::Print),
+        StepAct::Words { section, index } => Some(Act::Words { section, index }),
+    }
+}
+
+/// The code of a refused step.
+pub(crate) fn code_of(why: StepRefused) -> Code
+    ensures { result ≡ code_of why }
+{
+    match why {
+        StepRefused::NoStep => Code::NoStep,
+        StepRefused::KeyUsed(key) => Code::KeyUsed(key),
     }
 }
