@@ -1,0 +1,13 @@
+//! The text of `/proc/allocinfo`: a header, and a line for each code tag.
+#![tactic(auto)]
+
+pub mod print;
+pub mod rows;
+pub mod top;
+
+pub use print::{print_rows, write_header, write_line};
+pub use rows::Row;
+pub use top::{print_top, ranked_rows};
+
+#[cfg(test)]
+mod tests;

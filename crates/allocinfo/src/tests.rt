@@ -1,0 +1,102 @@
+use crate::{Row, print_rows, print_top, ranked_rows, write_header, write_line};
+use codetag::CodeTag;
+use std::alloc::Global;
+use std::process::Abort;
+use std::test::Fail;
+use tag_section::Sections;
+
+const HEADER: &[u8] = b"allocinfo - version: 1.0\n#     <size>  <calls> <tag info>\n";
+
+// Two tags of the kernel, and one of a module.
+fn three_tags(alloc: Global) -> Result<Sections, Fail> {
+    let mut sections = Sections::new(alloc);
+    let _kernel = sections.begin(b"kernel")?;
+    sections.add_line(CodeTag::new(alloc, b"mm/a.c", 10, b"fa")?)?;
+    sections.add_line(CodeTag::new(alloc, b"mm/b.c", 20, b"fb")?)?;
+    let _module = sections.begin(b"ext4")?;
+    sections.add_line(CodeTag::new(alloc, b"fs/ext4/a.c", 11, b"ext4_a")?)?;
+    Ok(sections)
+}
+
+fn row(bytes: u64, calls: u64, section: u32, index: u32) -> Row {
+    Row {
+        bytes,
+        calls,
+        section,
+        index,
+        kept: false,
+    }
+}
+
+#[test]
+fn writes_lines(rt: HostRuntime) -> Result<(), Fail> {
+    let sections = three_tags(rt.alloc())?;
+    assert!(rt; sections.count() == 2);
+    assert!(rt; sections.len_of(0) == 2);
+    assert!(rt; sections.len_of(1) == 1);
+
+    let mut out = Vec::new(rt.alloc());
+    write_header(&mut out)?;
+    assert_eq!(rt; out.as_slice(), HEADER);
+
+    let mut out = Vec::new(rt.alloc());
+    write_line(
+        &sections,
+        Row {
+            bytes: 4096,
+            calls: 1,
+            section: 0,
+            index: 0,
+            kept: false,
+        },
+        &mut out,
+    )?;
+    write_line(
+        &sections,
+        Row {
+            bytes: 0,
+            calls: 0,
+            section: 1,
+            index: 0,
+            kept: false,
+        },
+        &mut out,
+    )?;
+    write_line(
+        &sections,
+        Row {
+            bytes: 2048,
+            calls: 1,
+            section: 1,
+            index: 0,
+            kept: true,
+        },
+        &mut out,
+    )?;
+    write_line(
+        &sections,
+        Row {
+            bytes: u64::MAX,
+            calls: u64::MAX,
+            section: 0,
+            index: 1,
+            kept: false,
+        },
+        &mut out,
+    )?;
+    write_line(
+        &sections,
+        Row {
+            bytes: 1 << 63,
+            calls: 123,
+            section: 0,
+            index: 1,
+            kept: false,
+        },
+        &mut out,
+    )?;
+    let lines =
+        b"        4096        1 mm/a.c:10 func:fa \n           0        0 fs/ext4/a.c:11 [ext4] func:ext4_a \n        2048        1 fs/ext4/a.c:11 [ext4:kept] func:ext4_a \n          -1 18446744073709551615 mm/b.c:20 func:fb \n-9223372036854775808      123 mm/b.c:20 func:fb \n";
+    assert_eq!(rt; out.as_slice(), lines.as_slice());
+    Ok(())
+}
