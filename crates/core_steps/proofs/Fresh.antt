@@ -14,7 +14,7 @@ use Rattle.tag_model.specs.declared.state.Part.TheVariants.{Cpu, Place, Modules,
 use Rattle.tag_model.specs.declared.limits.TheConstants.{MAX_PLACES}
 use Rattle.tag_model.specs.Shape.{IsChecked}
 use Rattle.tag_model.specs.WordState.{is_cpu, is_place, is_place_at, is_list, is_pass, part_fits, word_place, word_of, counted, counted_of, records_with, runs_with, notes_with, users_of, one_if, in_range, next_id}
-use Rattle.tag_model.specs.Laws.{Safe, OneOfEach, SumLaw, CoverLaw, SweepLaw, list_fits,  is_reading, cleared, same_run, same_note, runs_of_cpu}
+use Rattle.tag_model.specs.Laws.{Safe, OneOfEach, SumLaw, CoverLaw, SweepLaw, list_fits, is_reading, cleared, same_run, same_note, runs_of_cpu}
 use Rattle.tag_model.specs.declared.state.Hand.{Hand}
 use Rattle.core_steps.specs.declared.op.TheConstants.{KEY_END}
 use Rattle.core_steps.specs.Machine.{Waiting, Machine, machine_of, nothing_waits, reserves}
@@ -35,9 +35,9 @@ sum_state f cpus places = omega (arith, sum_both f cpus (places ++ Modules no_mo
 
 zero_word : (n i : ℕ) → get_or {A = ℕ} (replicate n 0) i 0 ≡ 0
 zero_word n i = elim (cases_lt i n) [
-    | inl l ↦ get_or-replicate n i 0 0 l
-    | inr g ↦ get_or_past (replicate n 0) i 0 (omega (arith, length-replicate {A = ℕ} n 0))
-    ]
+  | inl l ↦ get_or-replicate n i 0 0 l
+  | inr g ↦ get_or_past (replicate n 0) i 0 (omega (arith, length-replicate {A = ℕ} n 0))
+]
 
 -- each CPU of a run of numbers once
 one_cpu : (own : List ℕ) (i n count : ℕ) → sum_by (is_cpu i) (cpu_parts n (replicate count None) (replicate count own)) ≡ one_if (nat_le n i && nat_lt i (n + count))
@@ -63,7 +63,6 @@ one_if_le true = omega arith
 one_if_le false = omega arith
 
 module _ (k : Shape) (checked : IsChecked k) (places : ℕ) (few : places ≤ MAX_PLACES) where
-
   own : List ℕ
   own = replicate (2 * k.tags) 0
 
@@ -80,8 +79,14 @@ module _ (k : Shape) (checked : IsChecked k) (places : ℕ) (few : places ≤ MA
   none : (f : Part → ℕ) → ((j : ℕ) → j < k.cpus → f (Cpu (cpu_part j None own)) ≡ 0) → ((j : ℕ) → f (Place j held.None) ≡ 0) → f (Modules no_modules) ≡ 0 → f (NextId 1) ≡ 0 → sum_by f parts ≡ 0
   unfolding parts cpus all
   none f on_cpus on_places on_list on_pass =
-      omega (arith, sum_state f (cpu_parts 0 (replicate k.cpus None) (replicate k.cpus own)) (place_parts 0 (replicate places held.None)),
-        zero_cpus f own 0 k.cpus (λ j l. on_cpus j (omega arith)), zero_places f 0 places on_places, on_list, on_pass)
+      omega (
+        arith,
+        sum_state f (cpu_parts 0 (replicate k.cpus None) (replicate k.cpus own)) (place_parts 0 (replicate places held.None)),
+        zero_cpus f own 0 k.cpus (λ j l. on_cpus j (omega arith)),
+        zero_places f 0 places on_places,
+        on_list,
+        on_pass,
+      )
 
   each : OneOfEach k parts
   unfolding parts cpus all
@@ -95,8 +100,10 @@ module _ (k : Shape) (checked : IsChecked k) (places : ℕ) (few : places ≤ MA
 
   sums : SumLaw parts
   unfolding own
-  sums = record { sums = λ kind t. ap (λ (n : ℕ). n % 2 ^ 64)
-    (none (word_of kind t) (λ j l. zero_word (2 * k.tags) (word_place kind t)) (λ j. refl) refl refl ∙ sym (none (counted kind t) (λ j l. refl) (λ j. refl) refl refl)) }
+  sums = record {
+    sums = λ kind t. ap (λ (n : ℕ). n % 2 ^ 64)
+        (none (word_of kind t) (λ j l. zero_word (2 * k.tags) (word_place kind t)) (λ j. refl) refl refl ∙ sym (none (counted kind t) (λ j l. refl) (λ j. refl) refl refl));
+  }
 
   fits : sum_by (λ p. one_if (not (part_fits k p))) parts ≡ 0
   unfolding own
@@ -152,5 +159,5 @@ core_fresh k kernel_len hands places waiting words checked kernel h p w o = rw (
   safe = safe_fresh k checked KEY_END (omega arith);
 })
   where
-  no_reserve : (cpus i key : ℕ) → i < cpus → reserves key (get_or (replicate cpus nothing_waits) i nothing_waits) ≡ true → ⊥
-  no_reserve cpus i key below h = let e = get_or-replicate cpus i nothing_waits nothing_waits below in let f : reserves key nothing_waits ≡ true = subst (λ (w : Waiting). reserves key w ≡ true) e h in cc
+    no_reserve : (cpus i key : ℕ) → i < cpus → reserves key (get_or (replicate cpus nothing_waits) i nothing_waits) ≡ true → ⊥
+    no_reserve cpus i key below h = let e = get_or-replicate cpus i nothing_waits nothing_waits below in let f : reserves key nothing_waits ≡ true = subst (λ (w : Waiting). reserves key w ≡ true) e h in cc

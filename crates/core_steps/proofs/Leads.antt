@@ -48,5 +48,5 @@ leads_place k hands words places rest cpu key hand own next len below within kee
     let there' = length-place_parts 0 places in
     rw (cpu_parts-set 0 hands words cpu hand own len below, place_parts-set 0 places key next within)
     (leads k (old ∷ was ∷ []) (new ∷ will ∷ []) _ _ keeps
-      (becomes_both (cpu_parts 0 hands words) (place_parts 0 places) rest cpu key old new was will (omega arith) (get_or-cpu_parts 0 hands words cpu old len below)
-        (omega arith) (get_or-place_parts 0 places key was within)))
+    (becomes_both (cpu_parts 0 hands words) (place_parts 0 places) rest cpu key old new was will (omega arith) (get_or-cpu_parts 0 hands words cpu old len below)
+    (omega arith) (get_or-place_parts 0 places key was within)))

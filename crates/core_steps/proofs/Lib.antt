@@ -1,8 +1,11 @@
 pub mod Parts
 pub mod Leads
+pub mod Takes
+pub mod Hands
 pub mod Ready
 pub mod Kept
 pub mod Queued
+pub mod Left
 pub mod MovedWords
 pub mod Meaning
 pub mod Fresh

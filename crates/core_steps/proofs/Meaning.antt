@@ -9,13 +9,13 @@ use Rattle.tag_model.specs.declared.state.Held.{Held}
 use Rattle.tag_model.specs.declared.state.Kind.{Kind}
 use Rattle.tag_model.specs.declared.state.Kind.TheVariants.{Bytes, Calls}
 use Rattle.tag_model.specs.Wrap.{wrap, wrap_minus}
-use Rattle.tag_model.specs.StepRules.{raised}
+use Rattle.tag_model.specs.StepRules.{raised, lowered}
 use Rattle.tag_model.specs.Moves.{Move, moved_word}
 use Rattle.tag_model.specs.WordState.{word_place}
 use Rattle.core_steps.specs.declared.op.Op.{Op}
 use Rattle.core_steps.specs.declared.op.Actor.TheVariants as actor
 use Rattle.core_steps.specs.declared.step.WordStep.{WordStep}
-use Rattle.core_steps.specs.declared.step.WordStep.TheVariants.{BeginAllocation, AddBytes, Write}
+use Rattle.core_steps.specs.declared.step.WordStep.TheVariants.{BeginAllocation, AddBytes, AddCall, SubtractBytes, SubtractCall, Write}
 use Rattle.core_steps.specs.Machine.{Machine, Waiting, hand_at, waiting_at, step_of, words_after, moves_of, moves_in, moves_of_step, stepped_by, after_step, refusal_of, CanTake, HandInWords, raised_in_hand, move_in_hand, machine_of}
 use Rattle.core_steps.specs.CoreState.{CoreState, IsCore, words_at, words_stepped, words_after_step, stepped, fresh, fresh_machine, CanStep}
 use Rattle.core_steps.specs.Moved.{kind_at, own_moved, words_moved, core_of, HasMoved, moved_on}
@@ -33,6 +33,9 @@ own_at cpus tags moves cpu below = get_or-map-range_with_len (own_moved tags mov
 wrap_raised : (w n : ℕ) → wrap (w + n) ≡ wrap_minus (w + n) 0
 wrap_raised w n = omega arith
 
+wrap_lowered : (w n : ℕ) → wrap_minus (w + 0) n ≡ wrap_minus w n
+wrap_lowered w n = omega arith
+
 module _ (cpus tags : ℕ) (moves : List Move) (cpu : ℕ) (below : cpu < cpus) where
 
   own : List ℕ
@@ -46,18 +49,32 @@ module _ (cpus tags : ℕ) (moves : List Move) (cpu : ℕ) (below : cpu < cpus) 
       ∙ rw (own_at cpus tags moves cpu below)
       (ap (λ (w : ℕ). set (words_moved cpus tags moves) cpu (set (own_moved tags moves cpu) (word_place kind tag) w)) (sym (wrap_raised (get_or (own_moved tags moves cpu) (word_place kind tag) 0) n)))
 
+  -- a word that falls
+  moved_fall : (kind : Kind) (tag n : ℕ) → word_place kind tag < 2 * tags
+      → words_moved cpus tags (moves ++ record { cpu = cpu; kind = kind; tag = tag; up = 0; down = n } ∷ []) ≡ set (words_moved cpus tags moves) cpu (lowered kind tag n (get_or (words_moved cpus tags moves) cpu []))
+  moved_fall kind tag n within =
+      moved_one tags moves (record { cpu = cpu; kind = kind; tag = tag; up = 0; down = n }) within cpus below
+      ∙ rw (own_at cpus tags moves cpu below)
+      (ap (λ (w : ℕ). set (words_moved cpus tags moves) cpu (set (own_moved tags moves cpu) (word_place kind tag) w)) (wrap_lowered (get_or (own_moved tags moves cpu) (word_place kind tag) 0) n))
+
   pub moved_step : (step : WordStep) (hand : Option Hand) (places : ℕ) → CanTake step hand (2 * tags) places
       → words_moved cpus tags (moves ++ moves_of cpu step hand) ≡ set (words_moved cpus tags moves) cpu (words_after step hand (get_or (words_moved cpus tags moves) cpu []))
   moved_step (BeginAllocation tag) hand places can = moved_rise Calls tag.number 1 (omega arith)
   moved_step (AddBytes size) None places can = rw append-nil (sym (set-get_or (words_moved cpus tags moves) cpu []))
   moved_step (AddBytes size) (Some h) places can = moved_rise Bytes h.tag.number size (omega arith)
+  moved_step AddCall None places can = rw append-nil (sym (set-get_or (words_moved cpus tags moves) cpu []))
+  moved_step AddCall (Some h) places can = moved_rise Calls h.tag.number 1 (omega (arith, can.0))
+  moved_step (SubtractBytes bytes) None places can = rw append-nil (sym (set-get_or (words_moved cpus tags moves) cpu []))
+  moved_step (SubtractBytes bytes) (Some h) places can = moved_fall Bytes h.tag.number bytes (omega (arith, can.0))
+  moved_step SubtractCall None places can = rw append-nil (sym (set-get_or (words_moved cpus tags moves) cpu []))
+  moved_step SubtractCall (Some h) places can = moved_fall Calls h.tag.number 1 (omega (arith, can.0))
   moved_step (Write key held next) hand places can = rw append-nil (sym (set-get_or (words_moved cpus tags moves) cpu []))
 
 moved_in : (cpus tags : ℕ) (moves : List Move) (m : Machine) (cpu : ℕ) (ops : List Op) (done : ℕ) → cpu < cpus → length (words_at (words_moved cpus tags moves) cpu) ≡ 2 * tags
     → CanStep m (words_moved cpus tags moves) cpu ops done → words_moved cpus tags (moves ++ moves_in m cpu ops done) ≡ words_stepped m (words_moved cpus tags moves) cpu ops done
 moved_in cpus tags moves m cpu [] done below len can = rw append-nil refl
 moved_in cpus tags moves m cpu (op ∷ ops) done below len can =
-    moved_step cpus tags moves cpu below (step_of op done) (hand_at m cpu) (length m.places) (subst (λ (n : ℕ). CanTake (step_of op done) (hand_at m cpu) n (length m.places)) len can.2)
+    moved_step cpus tags moves cpu below (step_of op done (hand_at m cpu) m.places) (hand_at m cpu) (length m.places) (subst (λ (n : ℕ). CanTake (step_of op done (hand_at m cpu) m.places) (hand_at m cpu) n (length m.places)) len can.2)
 
 -- a step of the CPU, with its moves
 pub core_of_step : (shape : Shape) (kernel_len : ℕ) (m : Machine) (moves : List Move) (cpu : ℕ) → IsCore (core_of shape kernel_len m moves) → cpu < shape.cpus

@@ -52,13 +52,13 @@ pub becomes_both : (a b c : List Part) (i j : ℕ) (x y u v : Part) → i < leng
 becomes_both a b c i j x y u v h e g d = record {
   rest = without a i ++ (without b j ++ c);
   before = λ f.
-    let s = sum_both f a (b ++ c) in let s' = sum_both f b c in
-    let t = sum_without f a i x h e in let t' = sum_without f b j u g d in
-    let w = sum_both f (without a i) (without b j ++ c) in let w' = sum_both f (without b j) c in let o = sum_two f x u in omega arith;
+      let s = sum_both f a (b ++ c) in let s' = sum_both f b c in
+      let t = sum_without f a i x h e in let t' = sum_without f b j u g d in
+      let w = sum_both f (without a i) (without b j ++ c) in let w' = sum_both f (without b j) c in let o = sum_two f x u in omega arith;
   after = λ f.
-    let s = sum_both f (set a i y) (set b j v ++ c) in let s' = sum_both f (set b j v) c in
-    let t = sum_replaced f a i y h in let t' = sum_replaced f b j v g in
-    let w = sum_both f (without a i) (without b j ++ c) in let w' = sum_both f (without b j) c in let o = sum_two f y v in omega arith;
+      let s = sum_both f (set a i y) (set b j v ++ c) in let s' = sum_both f (set b j v) c in
+      let t = sum_replaced f a i y h in let t' = sum_replaced f b j v g in
+      let w = sum_both f (without a i) (without b j ++ c) in let w' = sum_both f (without b j) c in let o = sum_two f y v in omega arith;
 }
 
 -- ---- CPUs and places, by number

@@ -25,7 +25,6 @@ reserves_queued n key places hand [] done op ready h = let none = ready.1 in gri
 reserves_queued n key places hand (x ∷ ops) done op ready h = h
 
 module _ (s : CoreState) (cpu : ℕ) (op : Op) (core : IsCore s) (below : cpu < s.shape.cpus) (is : IsOp s.kernel_len op) where
-
   m : Machine
   m = s.machine
 
@@ -44,18 +43,18 @@ module _ (s : CoreState) (cpu : ℕ) (op : Op) (core : IsCore s) (below : cpu < 
   unfolding next
   ready j within = elim (cases_eq j cpu) [
     | inl e ↦ subst (IsReadyAt s.kernel_len next) (sym e)
-      (subst (λ (w : Waiting). IsReady s.kernel_len s.machine.places (hand_at s.machine cpu) w.ops w.done) (sym here)
-      (ready_queued s.kernel_len s.machine.places (hand_at s.machine cpu) (waiting_at s.machine cpu).ops (waiting_at s.machine cpu).done op (core.machine.ready cpu below) is))
+        (subst (λ (w : Waiting). IsReady s.kernel_len s.machine.places (hand_at s.machine cpu) w.ops w.done) (sym here)
+        (ready_queued s.kernel_len s.machine.places (hand_at s.machine cpu) (waiting_at s.machine cpu).ops (waiting_at s.machine cpu).done op (core.machine.ready cpu below) is))
     | inr ne ↦ subst (λ (w : Waiting). IsReady s.kernel_len s.machine.places (hand_at s.machine j) w.ops w.done) (sym (there j ne)) (core.machine.ready j within)
-    ]
+  ]
 
   reserved : (j key : ℕ) → j < s.shape.cpus → reserves key (waiting_at next j) ≡ true → reserves key (waiting_at s.machine j) ≡ true
   reserved j key within h = elim (cases_eq j cpu) [
     | inl e ↦ subst (λ (i : ℕ). reserves key (waiting_at s.machine i) ≡ true) (sym e)
-      (reserves_queued s.kernel_len key s.machine.places (hand_at s.machine cpu) (waiting_at s.machine cpu).ops (waiting_at s.machine cpu).done op (core.machine.ready cpu below)
+        (reserves_queued s.kernel_len key s.machine.places (hand_at s.machine cpu) (waiting_at s.machine cpu).ops (waiting_at s.machine cpu).done op (core.machine.ready cpu below)
         (subst (λ (w : Waiting). reserves key w ≡ true) (ap (waiting_at next) e ∙ here) h))
     | inr ne ↦ subst (λ (w : Waiting). reserves key w ≡ true) (there j ne) h
-    ]
+  ]
 
   core_queued : IsCore (record s { machine = record s.machine { waiting = set s.machine.waiting cpu (with_op (waiting_at s.machine cpu) op) } })
   unfolding state_of next

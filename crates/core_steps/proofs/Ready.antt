@@ -1,17 +1,25 @@
--- What a step of an op leaves: its own CPU is ready for what comes next, and so is each other CPU.
-use Rattle.std.proofs.Common.{◌≡◌, ◌≢◌, ℕ, zero, suc, ◌+◌, ◌<◌, ◌≤◌, List, [], ◌∷◌, ◌++◌, length, get_or, set, refl, sym, ap, ◌∙◌, subst, arith, Option, Some, None, Bool, true, false, inl, inr, ◌⊎◌}
+-- What a step of an op is and leaves: it is one of the step rules, its own CPU is ready for what comes next, and the places of other keys stay.
+use Rattle.std.proofs.Common.{◌≡◌, ◌≢◌, ℕ, zero, suc, ◌+◌, ◌<◌, ◌≤◌, ◌==◌, List, [], ◌∷◌, ◌++◌, length, get_or, set, refl, sym, ap, ◌∙◌, subst, arith, Option, Some, None, Bool, true, false, not, nat_lt, ◌||◌, ◌&&◌, inl, inr, ◌⊎◌, eqb-true, ltb-true}
+use Rattle.std.proofs.lemmas.Bool.{and_parts, or_cases}
 use Rattle.std.proofs.lemmas.Bool.Decides.{nat_tests}
 use Rattle.std.proofs.lemmas.List.{get_or-set_same, get_or-set_other}
 use Rattle.std.specs.List.{AllByRecursion}
+use Rattle.tag_model.specs.declared.shape.Shape.{Shape}
+use Rattle.tag_model.specs.declared.state.Tag.{Tag}
 use Rattle.tag_model.specs.declared.state.Hand.{Hand}
 use Rattle.tag_model.specs.declared.state.Held.{Held}
 use Rattle.tag_model.specs.declared.state.Held.TheVariants as held
+use Rattle.tag_model.specs.Reference.{held_fits, hand_counts_of, held_counts_of}
+use Rattle.tag_model.specs.declared.limits.TheConstants.{SIZE_END}
 use Rattle.core_steps.specs.declared.op.Op.{Op}
-use Rattle.core_steps.specs.declared.op.Op.TheVariants.{Open}
+use Rattle.core_steps.specs.declared.op.Op.TheVariants.{Open, Close, Swap, Trim}
 use Rattle.core_steps.specs.declared.op.StepRefused.{StepRefused}
-use Rattle.core_steps.specs.declared.op.StepRefused.TheVariants.{KeyUsed}
-use Rattle.core_steps.specs.Machine.{Waiting, reserves, names_key, held_at, kernel_tag, step_of, hand_after, places_after, advanced, first_refusal, is_reserved, holds_nothing, with_bytes, step_count}
-use Rattle.core_steps.specs.CoreState.{IsReady, IsOpening, IsUnderWay, IsOp, opening_hand}
+use Rattle.core_steps.specs.declared.op.StepRefused.TheVariants.{KeyUsed, NotLive, TooSmall}
+use Rattle.core_steps.specs.declared.op.TheConstants.{KEY_END}
+use Rattle.core_steps.specs.Machine.{Waiting, reserves, names_key, held_at, kernel_tag, step_of, hand_after, places_after, advanced, first_refusal, is_reserved, is_live, is_used, is_counted, holds_nothing, size_of, in_hand, put_down, bytes_in, with_bytes, less_bytes, step_count}
+use Rattle.core_steps.specs.CoreState.{IsReady, IsOpening, IsClosing, IsSwapping, IsTrimming, IsUnderWay, IsOp, IsOpen, IsKey, IsSwap, IsTrim, HoldsReference, HoldsCall, opening_hand}
+use Rattle.core_steps.proofs.Takes.{IsRuled, CanWrite, PlacesFit}
+use Rattle.core_steps.proofs.Hands.{taken, can_clear, can_exchange, can_put, can_lower, lowered_all, lowered_some, can_end, bytes_taken, passes}
 
 -- a number below 3, by cases
 pub below_three : (P : ℕ → Type 0) (n : ℕ) → n < 3 → P 0 → P 1 → P 2 → P n
@@ -20,46 +28,261 @@ below_three P (suc zero) h a b c = b
 below_three P (suc (suc zero)) h a b c = c
 below_three P (suc (suc (suc n))) h a b c = absurd (omega arith)
 
--- an op behind those of its actor
-pub reserved_open : (key section index size done : ℕ) (ops : List Op) → 0 < done → reserves key (record { ops = Open key section index size ∷ ops; done = done }) ≡ true
-reserved_open key section index size done ops h = grind (arith, nat_tests)
+-- a key that an op under way names is reserved
+reserved : (key done : ℕ) (op : Op) (ops : List Op) → 0 < done → names_key key op ≡ true → reserves key (record { ops = op ∷ ops; done = done }) ≡ true
+reserved key done op ops some names = grind (arith, nat_tests)
+
+same_key : (key : ℕ) → (key == key) ≡ true
+same_key key = grind (arith, nat_tests)
+
+or_second : (a b : Bool) → b ≡ true → (a || b) ≡ true
+or_second true b h = refl
+or_second false b h = h
+
+or_first : (a b : Bool) → a ≡ true → (a || b) ≡ true
+or_first a b h = rw h refl
 
 -- what is ready stays ready where the places that it reserves stay
 pub others_ready : (kernel_len : ℕ) (places next : List Held) (hand : Option Hand) (ops : List Op) (done : ℕ) → IsReady kernel_len places hand ops done
     → ((key : ℕ) → reserves key (record { ops = ops; done = done }) ≡ true → held_at next key ≡ held_at places key) → IsReady kernel_len next hand ops done
 others_ready n places next hand [] done r keeps = r
-others_ready n places next hand (Open key section index size ∷ ops) done r keeps =
-    (record { within = r.0.within; start = r.0.start; begun = r.0.begun; counted = r.0.counted; place = λ h. keeps key (reserved_open key section index size done ops h) ∙ r.0.place h }, r.1, r.2)
+others_ready n places next hand (Open key section index size ∷ ops) done r keeps = (
+  record {
+    within = r.0.within;
+    start = r.0.start;
+    begun = r.0.begun;
+    counted = r.0.counted;
+    place = λ h. keeps key (reserved key done (Open key section index size) ops h (same_key key)) ∙ r.0.place h;
+  },
+  r.1,
+  r.2,
+)
+others_ready n places next hand (Close key ∷ ops) done r keeps = r
+others_ready n places next hand (Swap one two ∷ ops) done r keeps = (
+  record {
+    within = r.0.within;
+    start = r.0.start;
+    in_hand = r.0.in_hand;
+    first = λ h. keeps one (reserved one done (Swap one two) ops h (or_first (one == one) (two == one) (same_key one))) ∙ r.0.first h;
+    second = λ e. let h : 0 < done = omega arith in
+        subst (λ (x : Held). is_counted x ≡ true) (sym (keeps two (reserved two done (Swap one two) ops h (or_second (one == two) (two == two) (same_key two))))) (r.0.second e);
+  },
+  r.1,
+  r.2,
+)
+others_ready n places next hand (Trim key bytes ∷ ops) done r keeps = (
+  record {
+    within = r.0.within;
+    start = r.0.start;
+    in_hand = r.0.in_hand;
+    more = r.0.more;
+    place = λ h. keeps key (reserved key done (Trim key bytes) ops h (same_key key)) ∙ r.0.place h;
+  },
+  r.1,
+  r.2,
+)
 
 -- before its first step
 pub ready_first : (kernel_len : ℕ) (places : List Held) (ops : List Op) → AllByRecursion (IsOp kernel_len) ops → IsReady kernel_len places None ops 0
 ready_first n places [] all = (refl, refl)
 ready_first n places (Open key section index size ∷ ops) all =
     (record { within = omega arith; start = λ _. refl; begun = λ e. absurd (omega arith); counted = λ e. absurd (omega arith); place = λ h. absurd (omega arith) }, all.0, all.1)
+ready_first n places (Close key ∷ ops) all =
+    (record { within = omega arith; start = λ _. refl; cleared = λ e. absurd (omega arith); lowered = λ e. absurd (omega arith) }, all.0, all.1)
+ready_first n places (Swap one two ∷ ops) all =
+    (record { within = omega arith; start = λ _. refl; in_hand = λ h. absurd (omega arith); first = λ h. absurd (omega arith); second = λ e. absurd (omega arith) }, all.0, all.1)
+ready_first n places (Trim key bytes ∷ ops) all =
+    (record { within = omega arith; start = λ _. refl; in_hand = λ h. absurd (omega arith); more = λ e. absurd (omega arith); place = λ h. absurd (omega arith) }, all.0, all.1)
 
--- the keys of an op whose first step isn't refused are free
+-- ---- the keys of an op whose first step isn't refused are free
+
+live_free : (places : List Held) (waiting : List Waiting) (named key : ℕ) → is_live places waiting named ≡ true → (named == key) ≡ true → is_reserved key waiting ≡ false
+live_free places waiting named key live names =
+    let same = eqb-true named key names in
+    let free = (and_parts (is_counted (held_at places named)) (not (is_reserved named waiting)) live).1 in
+    subst (λ (k : ℕ). is_reserved k waiting ≡ false) same (grind (arith, nat_tests))
+
+live_counted : (places : List Held) (waiting : List Waiting) (key : ℕ) → is_live places waiting key ≡ true → is_counted (held_at places key) ≡ true
+live_counted places waiting key live = (and_parts (is_counted (held_at places key)) (not (is_reserved key waiting)) live).0
+
 pub free_key : (places : List Held) (waiting : List Waiting) (op : Op) (key : ℕ) → first_refusal places waiting op ≡ None → names_key key op ≡ true → is_reserved key waiting ≡ false
 free_key places waiting (Open named section index size) key none names =
     let same : named ≡ key = grind (arith, nat_tests) in subst (λ (k : ℕ). is_reserved k waiting ≡ false) same (grind (arith, nat_tests))
+free_key places waiting (Close named) key none names = live_free places waiting named key (passes _ _ _ none).0 names
+free_key places waiting (Swap one two) key none names = elim (or_cases (one == key) (two == key) names) [
+  | inl e ↦ live_free places waiting one key (passes _ _ _ none).0 e
+  | inr e ↦ live_free places waiting two key (passes _ _ _ (passes _ _ _ none).1).0 e
+]
+free_key places waiting (Trim named bytes) key none names = live_free places waiting named key (passes _ _ _ none).0 names
 
 nothing_held : (x : Held) → holds_nothing x ≡ true → x ≡ held.None
 nothing_held held.None h = refl
 nothing_held held.Empty h = cc
 nothing_held (held.Counted tag size) h = cc
 
-pub free_place : (places : List Held) (waiting : List Waiting) (key section index size : ℕ) → first_refusal places waiting (Open key section index size) ≡ None → held_at places key ≡ held.None
+free_place : (places : List Held) (waiting : List Waiting) (key section index size : ℕ) → first_refusal places waiting (Open key section index size) ≡ None → held_at places key ≡ held.None
 free_place places waiting key section index size none = nothing_held (held_at places key) (grind (arith, nat_tests))
 
--- the CPU that steps is ready for its next step
-pub own_ready : (kernel_len : ℕ) (places : List Held) (waiting : List Waiting) (hand : Option Hand) (op : Op) (ops : List Op) (done : ℕ)
-    → IsReady kernel_len places hand (op ∷ ops) done → (done ≡ 0 → first_refusal places waiting op ≡ None)
-    → let w = advanced (op ∷ ops) done in IsReady kernel_len (places_after (step_of op done) places) (hand_after (step_of op done) hand) w.ops w.done
-own_ready n places waiting hand (Open key section index size) ops done r free =
-    below_three (λ (d : ℕ). IsOpening places hand key (kernel_tag index) size d → (d ≡ 0 → held_at places key ≡ held.None)
-        → let w = advanced (Open key section index size ∷ ops) d in
-          IsReady n (places_after (step_of (Open key section index size) d) places) (hand_after (step_of (Open key section index size) d) hand) w.ops w.done)
-    done r.0.within
-    (λ o empty. (record { within = omega arith; start = λ e. absurd (omega arith); begun = λ _. refl; counted = λ e. absurd (omega arith); place = λ _. empty refl }, r.1, r.2))
-    (λ o empty. (record { within = omega arith; start = λ e. absurd (omega arith); begun = λ e. absurd (omega arith); counted = λ _. ap (with_bytes size) (o.begun refl); place = λ _. o.place (omega arith) }, r.1, r.2))
-    (λ o empty. ready_first n (set places key (held.Counted (kernel_tag index) size)) ops r.2)
-    r.0 (λ e. free_place places waiting key section index size (free e))
+-- ---- a step of an op
+
+pub record Next (k : Shape) (kernel_len : ℕ) (places : List Held) (hand : Option Hand) (op : Op) (ops : List Op) (done : ℕ) : Type 0 where
+  pub ruled : IsRuled k (step_of op done hand places) hand places
+  pub ready : let w = advanced (op ∷ ops) done in IsReady kernel_len (places_after (step_of op done hand places) places) (hand_after (step_of op done hand places) hand) w.ops w.done
+  pub kept : (key : ℕ) → names_key key op ≡ false → held_at (places_after (step_of op done hand places) places) key ≡ held_at places key
+
+other_key : (named key : ℕ) → (named == key) ≡ false → key ≢ named
+other_key named key other = λ e. grind (arith, nat_tests)
+
+-- the place of another key stays
+kept_at : (places : List Held) (named key : ℕ) (x : Held) → (named == key) ≡ false → held_at (set places named x) key ≡ held_at places key
+kept_at places named key x other = get_or-set_other places named key x held.None (other_key named key other)
+
+neither : (a b : Bool) → (a || b) ≡ false → (a ≡ false) × (b ≡ false)
+neither true b h = cc
+neither false b h = (refl, h)
+
+module _ (k : Shape) (kernel_len : ℕ) (kernel : kernel_len ≤ k.kernel_tags) (places : List Held) (fit : PlacesFit places) (len : length places ≡ KEY_END)
+    (hand : Option Hand) (ops : List Op) (queued : AllByRecursion (IsOp kernel_len) ops) where
+  next_open : (key section index size done : ℕ) → IsOpen kernel_len key section index size → IsOpening places hand key (kernel_tag index) size done → (done ≡ 0 → held_at places key ≡ held.None)
+      → Next k kernel_len places hand (Open key section index size) ops done
+  next_open key section index size done is under = below_three
+      (λ (d : ℕ). IsOpening places hand key (kernel_tag index) size d → (d ≡ 0 → held_at places key ≡ held.None) → Next k kernel_len places hand (Open key section index size) ops d)
+      done under.within
+      (λ o empty. record {
+        ruled = record { free = o.start refl; in_kernel = refl; below = omega (arith, is.in_section) };
+        ready = (record { within = omega arith; start = λ e. absurd (omega arith); begun = λ _. refl; counted = λ e. absurd (omega arith); place = λ _. empty refl }, is, queued);
+        kept = λ key other. refl;
+      })
+      (λ o empty. record {
+        ruled = record { h = record { tag = kernel_tag index; bytes = 0; calls = 1; opening = true }; held = o.begun refl; holds = record { opening = refl; none_yet = refl; some = is.some_bytes; fits = is.size_below } };
+        ready = (record { within = omega arith; start = λ e. absurd (omega arith); begun = λ e. absurd (omega arith); counted = λ _. ap (with_bytes size) (o.begun refl); place = λ _. o.place (omega arith) }, is, queued);
+        kept = λ key other. refl;
+      })
+      (λ o empty. record {
+        ruled = (omega (arith, is.key_below), written o);
+        ready = ready_first kernel_len (set places key (held.Counted (kernel_tag index) size)) ops queued;
+        kept = λ other ne. kept_at places key other (held.Counted (kernel_tag index) size) ne;
+      })
+      under
+    where
+      written : IsOpening places hand key (kernel_tag index) size 2 → CanWrite hand None (held_at places key) (held.Counted (kernel_tag index) size)
+      written o = let a = is.some_bytes in let b = is.size_below in record {
+        place_fits = grind (arith, nat_tests);
+        hand_fits = refl;
+        stays = λ kind named. rw (o.counted refl, o.place (omega arith)) (omega arith);
+        settled = refl;
+      }
+
+  next_close : (key done : ℕ) → IsKey key → IsClosing hand done → (done ≡ 0 → is_counted (held_at places key) ≡ true) → Next k kernel_len places hand (Close key) ops done
+  next_close key done is under = below_three
+      (λ (d : ℕ). IsClosing hand d → (d ≡ 0 → is_counted (held_at places key) ≡ true) → Next k kernel_len places hand (Close key) ops d)
+      done under.within
+      (λ o live. record {
+        ruled = (omega (arith, is.key_below), can_clear hand (held_at places key) (o.start refl) (fit key));
+        ready = (record { within = omega arith; start = λ e. absurd (omega arith); cleared = λ _. taken (held_at places key) (fit key) (live refl); lowered = λ e. absurd (omega arith) }, is, queued);
+        kept = λ other ne. kept_at places key other held.None ne;
+      })
+      (λ o live. record {
+        ruled = can_lower (bytes_in hand) hand (o.cleared refl) (omega arith);
+        ready = (record { within = omega arith; start = λ e. absurd (omega arith); cleared = λ e. absurd (omega arith); lowered = λ _. lowered_all hand (o.cleared refl) }, is, queued);
+        kept = λ other ne. refl;
+      })
+      (λ o live. record {
+        ruled = can_end hand (o.lowered refl);
+        ready = rw (o.lowered refl).held (ready_first kernel_len places ops queued);
+        kept = λ other ne. refl;
+      })
+      under
+
+  next_swap : (one two done : ℕ) → IsSwap one two → IsSwapping places hand one two done → (done ≡ 0 → (is_counted (held_at places one) ≡ true) × (is_counted (held_at places two) ≡ true))
+      → Next k kernel_len places hand (Swap one two) ops done
+  next_swap one two done is under = below_three
+      (λ (d : ℕ). IsSwapping places hand one two d → (d ≡ 0 → (is_counted (held_at places one) ≡ true) × (is_counted (held_at places two) ≡ true)) → Next k kernel_len places hand (Swap one two) ops d)
+      done under.within
+      (λ o live. record {
+        ruled = (omega (arith, is.first.key_below), can_clear hand (held_at places one) (o.start refl) (fit one));
+        ready = (
+          record {
+            within = omega arith;
+            start = λ e. absurd (omega arith);
+            in_hand = λ _. taken (held_at places one) (fit one) (live refl).0;
+            first = λ _. get_or-set_same places one held.None held.None (omega (arith, is.first.key_below));
+            second = λ _. rw (get_or-set_other places one two held.None held.None (λ e. is.apart (sym e))) (live refl).1;
+          },
+          is,
+          queued,
+        );
+        kept = λ other ne. kept_at places one other held.None (neither (one == other) (two == other) ne).0;
+      })
+      (λ o live. record {
+        ruled = (omega (arith, is.second.key_below), can_exchange hand (held_at places two) (o.in_hand (omega arith)) (fit two));
+        ready = (
+          record {
+            within = omega arith;
+            start = λ e. absurd (omega arith);
+            in_hand = λ _. taken (held_at places two) (fit two) (o.second refl);
+            first = λ _. get_or-set_other places two one (put_down hand) held.None is.apart ∙ o.first (omega arith);
+            second = λ e. absurd (omega arith);
+          },
+          is,
+          queued,
+        );
+        kept = λ other ne. kept_at places two other (put_down hand) (neither (one == other) (two == other) ne).1;
+      })
+      (λ o live. record {
+        ruled = (omega (arith, is.first.key_below), can_put hand (held_at places one) (o.in_hand (omega arith)) (o.first (omega arith)));
+        ready = ready_first kernel_len (set places one (put_down hand)) ops queued;
+        kept = λ other ne. kept_at places one other (put_down hand) (neither (one == other) (two == other) ne).0;
+      })
+      under
+
+  next_trim : (key bytes done : ℕ) → IsTrim key bytes → IsTrimming places hand key bytes done → (done ≡ 0 → (is_counted (held_at places key) ≡ true) × (bytes < size_of (held_at places key)))
+      → Next k kernel_len places hand (Trim key bytes) ops done
+  next_trim key bytes done is under = below_three
+      (λ (d : ℕ). IsTrimming places hand key bytes d → (d ≡ 0 → (is_counted (held_at places key) ≡ true) × (bytes < size_of (held_at places key))) → Next k kernel_len places hand (Trim key bytes) ops d)
+      done under.within
+      (λ o live. record {
+        ruled = (omega (arith, is.key_below), can_clear hand (held_at places key) (o.start refl) (fit key));
+        ready = (
+          record {
+            within = omega arith;
+            start = λ e. absurd (omega arith);
+            in_hand = λ _. taken (held_at places key) (fit key) (live refl).0;
+            more = λ _. let b = bytes_taken (held_at places key) in let l = (live refl).1 in omega arith;
+            place = λ _. get_or-set_same places key held.None held.None (omega (arith, is.key_below));
+          },
+          is,
+          queued,
+        );
+        kept = λ other ne. kept_at places key other held.None ne;
+      })
+      (λ o live. record {
+        ruled = let l = o.more refl in can_lower bytes hand (o.in_hand (omega arith)) (omega arith);
+        ready = (
+          record {
+            within = omega arith;
+            start = λ e. absurd (omega arith);
+            in_hand = λ _. lowered_some bytes hand (o.in_hand (omega arith)) (o.more refl);
+            more = λ e. absurd (omega arith);
+            place = λ _. o.place (omega arith);
+          },
+          is,
+          queued,
+        );
+        kept = λ other ne. refl;
+      })
+      (λ o live. record {
+        ruled = (omega (arith, is.key_below), can_put hand (held_at places key) (o.in_hand (omega arith)) (o.place (omega arith)));
+        ready = ready_first kernel_len (set places key (put_down hand)) ops queued;
+        kept = λ other ne. kept_at places key other (put_down hand) ne;
+      })
+      under
+
+  -- the next step of a CPU that is ready and isn't refused
+  pub next : (waiting : List Waiting) (op : Op) (done : ℕ) → IsUnderWay places hand op done → IsOp kernel_len op → (done ≡ 0 → first_refusal places waiting op ≡ None) → Next k kernel_len places hand op ops done
+  next waiting (Open key section index size) done under is free = next_open key section index size done is under (λ e. free_place places waiting key section index size (free e))
+  next waiting (Close key) done under is free = next_close key done is under (λ e. live_counted places waiting key (passes _ _ _ (free e)).0)
+  next waiting (Swap one two) done under is free = next_swap one two done is under
+      (λ e. let first = passes _ _ _ (free e) in (live_counted places waiting one first.0, live_counted places waiting two (passes _ _ _ first.1).0))
+  next waiting (Trim key bytes) done under is free = next_trim key bytes done is under
+      (λ e. let first = passes _ _ _ (free e) in (live_counted places waiting key first.0, ltb-true bytes (size_of (held_at places key)) (passes _ _ _ first.1).0))

@@ -18,12 +18,12 @@ use Rattle.tag_model.specs.Wrap.{wrap}
 use Rattle.tag_model.specs.WordState.{word_place}
 use Rattle.tag_model.specs.Laws.{Safe}
 use Rattle.core_steps.specs.declared.op.Op.{Op}
-use Rattle.core_steps.specs.declared.op.Op.TheVariants.{Open}
+use Rattle.core_steps.specs.declared.op.Op.TheVariants.{Open, Close, Swap, Trim}
 use Rattle.core_steps.specs.declared.op.Actor.{Actor}
 use Rattle.core_steps.specs.declared.op.Actor.TheVariants as actor
 use Rattle.core_steps.specs.declared.op.StepRefused.{StepRefused}
 use Rattle.core_steps.specs.declared.op.TheConstants.{KEY_END}
-use Rattle.core_steps.specs.Machine.{Waiting, Machine, nothing_waits, hand_at, held_at, waiting_at, kernel_tag, reserves, refusal_of, after_step, words_after, step_of, step_count, NamesPlaces, CanTake}
+use Rattle.core_steps.specs.Machine.{Waiting, Machine, nothing_waits, hand_at, held_at, waiting_at, kernel_tag, reserves, is_counted, bytes_in, refusal_of, after_step, words_after, step_of, step_count, KeysFit, CanTake}
 
 pub record CoreState : Type 0 where
   pub shape : Shape
@@ -68,7 +68,7 @@ refused s (actor.Cpu cpu) = refusal_of s.machine cpu
 
 abbrev pub words_stepped : Machine → List (List ℕ) → ℕ → List Op → ℕ → List (List ℕ)
 words_stepped m words cpu [] done = words
-words_stepped m words cpu (op ∷ ops) done = slice_set words cpu (words_after (step_of op done) (hand_at m cpu) (words_at words cpu))
+words_stepped m words cpu (op ∷ ops) done = slice_set words cpu (words_after (step_of op done (hand_at m cpu) m.places) (hand_at m cpu) (words_at words cpu))
 
 abbrev pub words_after_step : Machine → List (List ℕ) → ℕ → List (List ℕ)
 words_after_step m words cpu = let w = waiting_at m cpu in words_stepped m words cpu w.ops w.done
@@ -80,11 +80,12 @@ stepped s (actor.Cpu cpu) = record s { machine = after_step s.machine cpu; words
 abbrev pub CanStep : Machine → List (List ℕ) → ℕ → List Op → ℕ → Type 0
 CanStep m words cpu [] done = Unit {0}
 CanStep m words cpu (op ∷ ops) done =
-    NamesPlaces op (length m.places) × (done < step_count op) × CanTake (step_of op done) (hand_at m cpu) (length (words_at words cpu)) (length m.places)
+    KeysFit op × (done < step_count op) × CanTake (step_of op done (hand_at m cpu) m.places) (hand_at m cpu) (length (words_at words cpu)) (length m.places)
 
 -- what the CPU's next step reads and writes is there
 pub record CanGo (m : Machine) (all : List (List ℕ)) (cpu : ℕ) : Type 0 where
   pub hands : length m.hands ≡ length m.waiting
+  pub places : length m.places ≡ KEY_END
   pub words : length all ≡ length m.waiting
   pub step : cpu < length m.waiting → let w = waiting_at m cpu in CanStep m all cpu w.ops w.done
 
@@ -98,8 +99,28 @@ pub record IsOpen (kernel_len key section index size : ℕ) : Type 0 where
   pub some_bytes : 0 < size
   pub size_below : size < SIZE_END
 
+-- keys are from 1 to 65,535
+pub record IsKey (key : ℕ) : Type 0 where
+  pub some_key : 0 < key
+  pub key_below : key < KEY_END
+
+-- a swap is of two keys
+pub record IsSwap (one two : ℕ) : Type 0 where
+  pub first : IsKey one
+  pub second : IsKey two
+  pub apart : one ≢ two
+
+pub record IsTrim (key bytes : ℕ) : Type 0 where
+  pub some_key : 0 < key
+  pub key_below : key < KEY_END
+  pub some_bytes : 0 < bytes
+  pub bytes_below : bytes < SIZE_END
+
 abbrev pub IsOp : ℕ → Op → Type 0
 IsOp kernel_len (Open key section index size) = IsOpen kernel_len key section index size
+IsOp kernel_len (Close key) = IsKey key
+IsOp kernel_len (Swap one two) = IsSwap one two
+IsOp kernel_len (Trim key bytes) = IsTrim key bytes
 
 -- the actor is one of the shape
 abbrev pub IsActor : CoreState → Actor → Type 0
@@ -128,9 +149,52 @@ pub record IsOpening (places : List Held) (hand : Option Hand) (key : ℕ) (tag 
   pub counted : done ≡ 2 → hand ≡ opening_hand tag size
   pub place : 0 < done → held_at places key ≡ held.None
 
+-- a hand of so many bytes and calls, and of no allocation
+abbrev pub settled_hand : Tag → ℕ → ℕ → Option Hand
+settled_hand tag bytes calls = Some (record { tag = tag; bytes = bytes; calls = calls; opening = false })
+
+-- a whole reference is in hand
+pub record HoldsReference (hand : Option Hand) : Type 0 where
+  pub tag : Tag
+  pub size : ℕ
+  pub some : 0 < size
+  pub fits : size < SIZE_END
+  pub held : hand ≡ settled_hand tag size 1
+
+-- a call is in hand, its bytes are subtracted
+pub record HoldsCall (hand : Option Hand) : Type 0 where
+  pub tag : Tag
+  pub held : hand ≡ settled_hand tag 0 1
+
+-- a free under way has in hand what it hasn't subtracted yet
+pub record IsClosing (hand : Option Hand) (done : ℕ) : Type 0 where
+  pub within : done < 3
+  pub start : done ≡ 0 → hand ≡ None
+  pub cleared : done ≡ 1 → HoldsReference hand
+  pub lowered : done ≡ 2 → HoldsCall hand
+
+-- a swap under way has one of the references in hand; the first place is empty, and the second holds the other until it is exchanged
+pub record IsSwapping (places : List Held) (hand : Option Hand) (one two done : ℕ) : Type 0 where
+  pub within : done < 3
+  pub start : done ≡ 0 → hand ≡ None
+  pub in_hand : 0 < done → HoldsReference hand
+  pub first : 0 < done → held_at places one ≡ held.None
+  pub second : done ≡ 1 → is_counted (held_at places two) ≡ true
+
+-- a trim under way has the reference in hand, with more bytes than it takes away until it has taken them
+pub record IsTrimming (places : List Held) (hand : Option Hand) (key bytes done : ℕ) : Type 0 where
+  pub within : done < 3
+  pub start : done ≡ 0 → hand ≡ None
+  pub in_hand : 0 < done → HoldsReference hand
+  pub more : done ≡ 1 → bytes < bytes_in hand
+  pub place : 0 < done → held_at places key ≡ held.None
+
 -- the hand and the places of an op after so many of its steps
 abbrev pub IsUnderWay : List Held → Option Hand → Op → ℕ → Type 0
 IsUnderWay places hand (Open key section index size) done = IsOpening places hand key (kernel_tag index) size done
+IsUnderWay places hand (Close key) done = IsClosing hand done
+IsUnderWay places hand (Swap one two) done = IsSwapping places hand one two done
+IsUnderWay places hand (Trim key bytes) done = IsTrimming places hand key bytes done
 
 -- a CPU's hand fits what it does, and its ops may be queued
 abbrev pub IsReady : ℕ → List Held → Option Hand → List Op → ℕ → Type 0

@@ -1,5 +1,5 @@
 -- The machine without its words: hands by CPU, places by key, and the ops of each CPU.
-use Rattle.std.specs.Prelude.{◌≡◌, ℕ, ◌+◌, ◌*◌, ◌<◌, ◌==◌, ◌&&◌, ◌||◌, not, nat_lt, Bool, true, false, IsTrue, if◌then◌else◌, Option, Some, None, List, [], ◌∷◌, ◌++◌, length, slice_index, slice_set, slice_index_or, replicate}
+use Rattle.std.specs.Prelude.{◌≡◌, ◌≢◌, ℕ, ◌+◌, ◌-◌, ◌*◌, ◌<◌, ◌≤◌, ◌==◌, ◌&&◌, ◌||◌, not, nat_lt, Bool, true, false, IsTrue, if◌then◌else◌, Option, Some, None, List, [], ◌∷◌, ◌++◌, length, slice_index, slice_set, slice_index_or, replicate}
 use Rattle.std.specs.List.{list_any}
 use Rattle.tag_model.specs.declared.shape.Shape.{Shape}
 use Rattle.tag_model.specs.declared.state.Tag.{Tag}
@@ -8,17 +8,18 @@ use Rattle.tag_model.specs.declared.state.Held.{Held}
 use Rattle.tag_model.specs.declared.state.Held.TheVariants as held
 use Rattle.tag_model.specs.declared.state.Kind.{Kind}
 use Rattle.tag_model.specs.declared.state.Kind.TheVariants.{Bytes, Calls}
+use Rattle.tag_model.specs.declared.limits.TheConstants.{SIZE_END, MAX_HAND_CALLS}
 use Rattle.tag_model.specs.Moves.{Move}
-use Rattle.tag_model.specs.StepRules.{raised, lowered}
+use Rattle.tag_model.specs.StepRules.{raised, lowered, without_call}
 use Rattle.core_steps.specs.declared.op.Op.{Op}
-use Rattle.core_steps.specs.declared.op.Op.TheVariants.{Open}
+use Rattle.core_steps.specs.declared.op.Op.TheVariants.{Open, Close, Swap, Trim}
 use Rattle.core_steps.specs.declared.op.Actor.{Actor}
 use Rattle.core_steps.specs.declared.op.Actor.TheVariants as actor
 use Rattle.core_steps.specs.declared.op.StepRefused.{StepRefused}
-use Rattle.core_steps.specs.declared.op.StepRefused.TheVariants.{NoStep, KeyUsed}
+use Rattle.core_steps.specs.declared.op.StepRefused.TheVariants.{NoStep, NotLive, KeyUsed, TooSmall}
 use Rattle.core_steps.specs.declared.op.TheConstants.{KEY_END}
 use Rattle.core_steps.specs.declared.step.WordStep.{WordStep}
-use Rattle.core_steps.specs.declared.step.WordStep.TheVariants.{BeginAllocation, AddBytes, Write}
+use Rattle.core_steps.specs.declared.step.WordStep.TheVariants.{BeginAllocation, AddBytes, AddCall, SubtractBytes, SubtractCall, Write}
 
 -- the ops of a CPU, of which so many steps of the first are done
 pub record Waiting : Type 0 where
@@ -45,15 +46,58 @@ held_at places key = slice_index_or places key held.None
 abbrev pub waiting_at : Machine → ℕ → Waiting
 waiting_at m cpu = slice_index_or m.waiting cpu nothing_waits
 
+-- ---- hands and places
+
+-- a reference is taken in hand: its bytes and its call
+abbrev pub in_hand : Held → Option Hand
+in_hand held.None = None
+in_hand held.Empty = None
+in_hand (held.Counted tag size) = Some (record { tag = tag; bytes = size; calls = 1; opening = false })
+
+-- what is in hand is put down as a reference
+abbrev pub put_down : Option Hand → Held
+put_down None = held.None
+put_down (Some h) = held.Counted h.tag h.bytes
+
+abbrev pub bytes_in : Option Hand → ℕ
+bytes_in None = 0
+bytes_in (Some h) = h.bytes
+
+abbrev pub holds_nothing : Held → Bool
+holds_nothing held.None = true
+holds_nothing held.Empty = false
+holds_nothing (held.Counted tag size) = false
+
+abbrev pub is_counted : Held → Bool
+is_counted held.None = false
+is_counted held.Empty = false
+is_counted (held.Counted tag size) = true
+
+abbrev pub size_of : Held → ℕ
+size_of held.None = 0
+size_of held.Empty = 0
+size_of (held.Counted tag size) = size
+
 -- ---- the table of steps
 
 -- kernel tag i has tag number i
 abbrev pub kernel_tag : ℕ → Tag
 kernel_tag index = record { number = index; «module» = 0 }
 
+-- write-cell clears the place, and takes in hand what it held
+abbrev pub clear_step : ℕ → List Held → WordStep
+clear_step key places = Write key held.None (in_hand (held_at places key))
+
+-- write-cell writes what is in hand into the place
+abbrev pub put_step : ℕ → Option Hand → WordStep
+put_step key hand = Write key (put_down hand) None
+
 -- how many steps an op takes
 abbrev pub step_count : Op → ℕ
 step_count (Open key section index size) = 3
+step_count (Close key) = 3
+step_count (Swap one two) = 3
+step_count (Trim key bytes) = 3
 
 -- an allocation: add-call, add-bytes with its size, write-cell
 abbrev pub open_step : ℕ → ℕ → ℕ → ℕ → WordStep
@@ -62,13 +106,40 @@ open_step key index size done =
     else (if done == 1 then AddBytes size
     else Write key (held.Counted (kernel_tag index) size) None)
 
--- the step that comes after so many
-abbrev pub step_of : Op → ℕ → WordStep
-step_of (Open key section index size) done = open_step key index size done
+-- a free: write-cell clears the cell, sub-bytes subtracts its size, sub-call
+abbrev pub close_step : ℕ → ℕ → Option Hand → List Held → WordStep
+close_step key done hand places =
+    if done == 0 then clear_step key places
+    else (if done == 1 then SubtractBytes (bytes_in hand)
+    else SubtractCall)
+
+-- a swap: write-cell clears the first cell, writes its reference into the second and takes the second's in hand, and writes that into the first
+abbrev pub swap_step : ℕ → ℕ → ℕ → Option Hand → List Held → WordStep
+swap_step one two done hand places =
+    if done == 0 then clear_step one places
+    else (if done == 1 then Write two (put_down hand) (in_hand (held_at places two))
+    else put_step one hand)
+
+-- a trim: write-cell clears the cell, sub-bytes subtracts so many bytes, write-cell writes the lowered size
+abbrev pub trim_step : ℕ → ℕ → ℕ → Option Hand → List Held → WordStep
+trim_step key bytes done hand places =
+    if done == 0 then clear_step key places
+    else (if done == 1 then SubtractBytes bytes
+    else put_step key hand)
+
+-- the step that comes after so many, with this in hand and these places
+abbrev pub step_of : Op → ℕ → Option Hand → List Held → WordStep
+step_of (Open key section index size) done hand places = open_step key index size done
+step_of (Close key) done hand places = close_step key done hand places
+step_of (Swap one two) done hand places = swap_step one two done hand places
+step_of (Trim key bytes) done hand places = trim_step key bytes done hand places
 
 -- the op names the key
 abbrev pub names_key : ℕ → Op → Bool
 names_key key (Open named section index size) = named == key
+names_key key (Close named) = named == key
+names_key key (Swap one two) = (one == key) || (two == key)
+names_key key (Trim named bytes) = named == key
 
 -- ---- when a step is refused
 
@@ -83,18 +154,38 @@ reserves key w = not (w.done == 0) && first_names key w.ops
 abbrev pub is_reserved : ℕ → List Waiting → Bool
 is_reserved key waiting = list_any (reserves key) waiting
 
-abbrev pub holds_nothing : Held → Bool
-holds_nothing held.None = true
-holds_nothing held.Empty = false
-holds_nothing (held.Counted tag size) = false
+-- the key holds something, or an op under way names it
+abbrev pub is_used : List Held → List Waiting → ℕ → Bool
+is_used places waiting key = not (holds_nothing (held_at places key)) || is_reserved key waiting
 
--- an allocation wants a key that holds nothing and that no op under way names
+-- the key holds a reference, and no op under way names it
+abbrev pub is_live : List Held → List Waiting → ℕ → Bool
+is_live places waiting key = is_counted (held_at places key) && not (is_reserved key waiting)
+
 abbrev pub open_refusal : List Held → List Waiting → ℕ → Option StepRefused
-open_refusal places waiting key = if not (holds_nothing (held_at places key)) || is_reserved key waiting then Some (KeyUsed key) else None
+open_refusal places waiting key = if is_used places waiting key then Some (KeyUsed key) else None
+
+abbrev pub close_refusal : List Held → List Waiting → ℕ → Option StepRefused
+close_refusal places waiting key = if not (is_live places waiting key) then Some (NotLive key) else None
+
+abbrev pub swap_refusal : List Held → List Waiting → ℕ → ℕ → Option StepRefused
+swap_refusal places waiting one two =
+    if not (is_live places waiting one) then Some (NotLive one)
+    else (if not (is_live places waiting two) then Some (NotLive two)
+    else None)
+
+abbrev pub trim_refusal : List Held → List Waiting → ℕ → ℕ → Option StepRefused
+trim_refusal places waiting key bytes =
+    if not (is_live places waiting key) then Some (NotLive key)
+    else (if not (nat_lt bytes (size_of (held_at places key))) then Some TooSmall
+    else None)
 
 -- an op's first step
 abbrev pub first_refusal : List Held → List Waiting → Op → Option StepRefused
 first_refusal places waiting (Open key section index size) = open_refusal places waiting key
+first_refusal places waiting (Close key) = close_refusal places waiting key
+first_refusal places waiting (Swap one two) = swap_refusal places waiting one two
+first_refusal places waiting (Trim key bytes) = trim_refusal places waiting key bytes
 
 abbrev pub refusal_in : Machine → List Op → ℕ → Option StepRefused
 refusal_in m [] done = Some NoStep
@@ -110,14 +201,32 @@ abbrev pub with_bytes : ℕ → Option Hand → Option Hand
 with_bytes bytes None = None
 with_bytes bytes (Some h) = Some (record h { bytes = bytes })
 
+abbrev pub with_call : Option Hand → Option Hand
+with_call None = None
+with_call (Some h) = Some (record h { calls = h.calls + 1 })
+
+abbrev pub less_bytes : ℕ → Option Hand → Option Hand
+less_bytes bytes None = None
+less_bytes bytes (Some h) = Some (record h { bytes = h.bytes - bytes })
+
+abbrev pub less_call : Option Hand → Option Hand
+less_call None = None
+less_call (Some h) = without_call h
+
 abbrev pub hand_after : WordStep → Option Hand → Option Hand
 hand_after (BeginAllocation tag) hand = Some (record { tag = tag; bytes = 0; calls = 1; opening = true })
 hand_after (AddBytes size) hand = with_bytes size hand
+hand_after AddCall hand = with_call hand
+hand_after (SubtractBytes bytes) hand = less_bytes bytes hand
+hand_after SubtractCall hand = less_call hand
 hand_after (Write key held next) hand = next
 
 abbrev pub places_after : WordStep → List Held → List Held
 places_after (BeginAllocation tag) places = places
 places_after (AddBytes size) places = places
+places_after AddCall places = places
+places_after (SubtractBytes bytes) places = places
+places_after SubtractCall places = places
 places_after (Write key held next) places = slice_set places key held
 
 -- a word of the tag in hand is raised
@@ -125,9 +234,17 @@ abbrev pub raised_in_hand : Option Hand → Kind → ℕ → List ℕ → List �
 raised_in_hand None kind n words = words
 raised_in_hand (Some h) kind n words = raised kind h.tag.number n words
 
+-- a word of the tag in hand is lowered
+abbrev pub lowered_in_hand : Option Hand → Kind → ℕ → List ℕ → List ℕ
+lowered_in_hand None kind n words = words
+lowered_in_hand (Some h) kind n words = lowered kind h.tag.number n words
+
 abbrev pub words_after : WordStep → Option Hand → List ℕ → List ℕ
 words_after (BeginAllocation tag) hand words = raised Calls tag.number 1 words
 words_after (AddBytes size) hand words = raised_in_hand hand Bytes size words
+words_after AddCall hand words = raised_in_hand hand Calls 1 words
+words_after (SubtractBytes bytes) hand words = lowered_in_hand hand Bytes bytes words
+words_after SubtractCall hand words = lowered_in_hand hand Calls 1 words
 words_after (Write key held next) hand words = words
 
 -- a move on a word of the tag in hand
@@ -139,6 +256,9 @@ move_in_hand cpu (Some h) kind up down = record { cpu = cpu; kind = kind; tag = 
 abbrev pub moves_of : ℕ → WordStep → Option Hand → List Move
 moves_of cpu (BeginAllocation tag) hand = record { cpu = cpu; kind = Calls; tag = tag.number; up = 1; down = 0 } ∷ []
 moves_of cpu (AddBytes size) hand = move_in_hand cpu hand Bytes size 0
+moves_of cpu AddCall hand = move_in_hand cpu hand Calls 1 0
+moves_of cpu (SubtractBytes bytes) hand = move_in_hand cpu hand Bytes 0 bytes
+moves_of cpu SubtractCall hand = move_in_hand cpu hand Calls 0 1
 moves_of cpu (Write key held next) hand = []
 
 -- one step more is done, and after an op's last step the next op is the first
@@ -146,13 +266,17 @@ abbrev pub advanced : List Op → ℕ → Waiting
 advanced [] done = nothing_waits
 advanced (op ∷ ops) done = if done + 1 == step_count op then record { ops = ops; done = 0 } else record { ops = op ∷ ops; done = done + 1 }
 
+-- the CPU takes a step of its first op
+abbrev pub machine_after : Machine → ℕ → WordStep → Waiting → Machine
+machine_after m cpu step next = record {
+  hands = slice_set m.hands cpu (hand_after step (hand_at m cpu));
+  places = places_after step m.places;
+  waiting = slice_set m.waiting cpu next;
+}
+
 abbrev pub stepped_by : Machine → ℕ → List Op → ℕ → Machine
 stepped_by m cpu [] done = m
-stepped_by m cpu (op ∷ ops) done = record {
-  hands = slice_set m.hands cpu (hand_after (step_of op done) (hand_at m cpu));
-  places = places_after (step_of op done) m.places;
-  waiting = slice_set m.waiting cpu (advanced (op ∷ ops) done);
-}
+stepped_by m cpu (op ∷ ops) done = machine_after m cpu (step_of op done (hand_at m cpu) m.places) (advanced (op ∷ ops) done)
 
 -- the machine after the CPU's next step
 abbrev pub after_step : Machine → ℕ → Machine
@@ -160,22 +284,45 @@ after_step m cpu = let w = waiting_at m cpu in stepped_by m cpu w.ops w.done
 
 abbrev pub moves_in : Machine → ℕ → List Op → ℕ → List Move
 moves_in m cpu [] done = []
-moves_in m cpu (op ∷ ops) done = moves_of cpu (step_of op done) (hand_at m cpu)
+moves_in m cpu (op ∷ ops) done = moves_of cpu (step_of op done (hand_at m cpu) m.places) (hand_at m cpu)
 
 -- the moves of the CPU's next step
 abbrev pub moves_of_step : Machine → ℕ → List Move
 moves_of_step m cpu = let w = waiting_at m cpu in moves_in m cpu w.ops w.done
 
+-- ---- what a step needs
+
 abbrev pub HandInWords : Option Hand → ℕ → Type 0
 HandInWords None words = Unit {0}
 HandInWords (Some h) words = 2 * h.tag.number + 1 < words
 
--- the words and the place that a step writes are there
+-- there is room for a call more
+abbrev pub HasRoom : Option Hand → Type 0
+HasRoom None = Unit {0}
+HasRoom (Some h) = h.calls < MAX_HAND_CALLS
+
+-- a hand holds a call
+abbrev pub HasCall : Option Hand → Type 0
+HasCall None = Unit {0}
+HasCall (Some h) = 0 < h.calls
+
+-- a hand holds so many bytes
+abbrev pub HasBytes : ℕ → Option Hand → Type 0
+HasBytes bytes None = Unit {0}
+HasBytes bytes (Some h) = bytes ≤ h.bytes
+
+-- the words and the place that a step writes are there, and the hand holds what it gives up
 abbrev pub CanTake : WordStep → Option Hand → ℕ → ℕ → Type 0
 CanTake (BeginAllocation tag) hand words places = 2 * tag.number + 1 < words
 CanTake (AddBytes size) hand words places = HandInWords hand words
+CanTake AddCall hand words places = HandInWords hand words × HasRoom hand
+CanTake (SubtractBytes bytes) hand words places = HandInWords hand words × HasBytes bytes hand
+CanTake SubtractCall hand words places = HandInWords hand words × HasCall hand
 CanTake (Write key held next) hand words places = key < places
 
--- each key that the op names has its place
-abbrev pub NamesPlaces : Op → ℕ → Type 0
-NamesPlaces (Open key section index size) places = key < places
+-- each key that the op names has a place
+abbrev pub KeysFit : Op → Type 0
+KeysFit (Open key section index size) = key < KEY_END
+KeysFit (Close key) = key < KEY_END
+KeysFit (Swap one two) = (one < KEY_END) × (two < KEY_END)
+KeysFit (Trim key bytes) = key < KEY_END

@@ -5,5 +5,6 @@
 pub mod machine;
 pub mod op;
 mod pending;
+mod refusal;
 mod step;
 mod words;

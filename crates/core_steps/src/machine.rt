@@ -5,19 +5,19 @@ ghost use Rattle.tag_model.specs.Shape.{IsChecked};
 ghost use Rattle.tag_model.specs.StepRules.{Steps};
 ghost use Rattle.tag_model.specs.Laws.{Safe};
 ghost use Rattle.core_steps.specs.declared.op.TheConstants.{MAX_QUEUED};
-ghost use Rattle.core_steps.specs.Machine.{Waiting, nothing_waits, is_reserved, reserves, names_key, held_at, open_refusal, first_refusal, after_step, refusal_of, holds_nothing, NamesPlaces, machine_of};
+ghost use Rattle.core_steps.specs.Machine.{nothing_waits, after_step, refusal_of, machine_of};
 ghost use Rattle.core_steps.specs.CoreState.{CanGo, words_after_step, with_op, words_at, total_of};
 ghost use Rattle.tag_model.specs.declared.state.Held.TheVariants as held;
 
+use crate::op::{Actor, Event, KEY_END, MAX_QUEUED, Op, QueueError, StepRefused};
+use crate::pending::Pending;
+use crate::refusal::first_refusal;
+use crate::step::{self, next_step};
+use crate::words::CpuWords;
 use std::alloc::{AllocError, Global};
 use std::marker::Model;
 use tag_model::shape::Shape;
 use tag_model::state::{Hand, Held, Kind};
-
-use crate::op::{Actor, Event, KEY_END, MAX_QUEUED, Op, QueueError, StepRefused};
-use crate::pending::Pending;
-use crate::step::{self, next_step};
-use crate::words::CpuWords;
 
 /// The word machine.
 #[derive(Drop)]
@@ -80,56 +80,6 @@ fn empty_places(alloc: Global, count: u32) -> Result<Vec<Held>, AllocError>
     Ok(places)
 }
 
-/// Whether an op under way names the key.
-fn is_reserved(waiting: &[Pending], key: u32) -> bool
-    ensures { result ≡ is_reserved key waiting.now }
-{
-    waiting.iter().any(|pending| reserves(pending, key))
-}
-
-fn reserves(pending: &Pending, key: u32) -> bool
-    ensures { result ≡ reserves key pending.now }
-{
-    match pending.first() {
-        Some(op) => pending.done() != 0 && names_key(op, key),
-        None => false,
-    }
-}
-
-fn names_key(op: Op, key: u32) -> bool
-    ensures { result ≡ names_key key op }
-{
-    match op {
-        Op::Open { key: named, .. } => named == key,
-    }
-}
-
-fn is_empty_place(held: Held) -> bool
-    ensures { result ≡ holds_nothing held }
-{
-    matches!(held, Held::None)
-}
-
-fn open_refusal(key: u32, places: &[Held], waiting: &[Pending]) -> Option<StepRefused>
-    requires { key < length places.now }
-    ensures { result ≡ open_refusal places.now waiting.now key }
-{
-    if !is_empty_place(places[key as usize]) || is_reserved(waiting, key) {
-        return Some(StepRefused::KeyUsed(key));
-    }
-    None
-}
-
-/// Why the op's first step is refused, if it is.
-fn first_refusal(op: Op, places: &[Held], waiting: &[Pending]) -> Option<StepRefused>
-    requires { NamesPlaces op (length places.now) }
-    ensures { result ≡ first_refusal places.now waiting.now op }
-{
-    match op {
-        Op::Open { key, .. } => open_refusal(key, places, waiting),
-    }
-}
-
 fn push_op(pending: &mut Pending, op: Op) -> Result<(), QueueError>
     ensures ok { OnOk result (pending.new ≡ with_op pending.old op) }
     ensures full { (result ≡ Err QueueError.QueueFull) ↔ (MAX_QUEUED ≤ length pending.old.ops) }
@@ -178,10 +128,13 @@ fn step_on(
         return Err(StepRefused::NoStep);
     };
     let done = waiting[cpu].done();
-    if done == 0 && let Some(refused) = first_refusal(op, places, waiting) {
+    if done == 0
+        && let Some(refused) = first_refusal(op, places, waiting)
+    {
         return Err(refused);
     }
-    step::take(next_step(op, done), &mut words[cpu], &mut hands[cpu], places);
+    let step = next_step(op, done, hands[cpu], places);
+    step::take(step, &mut words[cpu], &mut hands[cpu], places);
     waiting[cpu].advance(op);
     Ok(Event::Stepped)
 }

@@ -24,6 +24,20 @@ pub enum Op {
         index: u32,
         size: u64,
     },
+    /// A free of the key's reference.
+    Close {
+        key: u32,
+    },
+    /// Two keys exchange their references.
+    Swap {
+        one: u32,
+        two: u32,
+    },
+    /// The size of the key's reference is lowered by so many bytes.
+    Trim {
+        key: u32,
+        bytes: u64,
+    },
 }
 
 /// What a step that was taken tells.
@@ -37,8 +51,12 @@ pub enum Event {
 pub enum StepRefused {
     /// The actor's queue is empty.
     NoStep,
+    /// The key has no reference, or an op under way names it.
+    NotLive(u32),
     /// The key holds something, or an op under way names it.
     KeyUsed(u32),
+    /// A trim takes no fewer bytes than the reference has.
+    TooSmall,
 }
 
 /// Why an op isn't queued.

@@ -3,18 +3,17 @@ ghost use Rattle.core_steps.specs.Machine.{Waiting, nothing_waits, advanced, ste
 ghost use Rattle.core_steps.specs.CoreState.{with_op};
 ghost use Rattle.core_steps.specs.declared.op.TheConstants.{MAX_QUEUED};
 
+use crate::op::Op;
+use crate::step;
 use std::alloc::{AllocError, Global};
 use std::collections::VecDeque;
 use std::marker::Model;
-
-use crate::op::Op;
-use crate::step;
 
 /// The ops of a CPU, in order, of which so many steps of the first are done.
 #[derive(Drop)]
 pub struct Pending {
     ops: VecDeque<Op>,
-    done: u32,
+    done: u64,
 }
 
 impl Model for Pending {
@@ -47,7 +46,7 @@ impl Pending {
         self.ops.front().copied()
     }
 
-    pub fn done(&self) -> u32
+    pub fn done(&self) -> u64
         ensures { result ≡ self.now.done }
     {
         self.done

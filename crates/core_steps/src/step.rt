@@ -1,20 +1,33 @@
 //! The steps of each op, in order.
 
 ghost use Rattle.std.specs.Prelude.{◌≡◌, ◌<◌, length};
-ghost use Rattle.core_steps.specs.Machine.{step_of, open_step, step_count, words_after, hand_after, places_after, CanTake};
-
-use tag_model::state::{Hand, Held, Kind, Tag};
+ghost use Rattle.tag_model.specs.StepRules.{without_call};
+ghost use Rattle.core_steps.specs.declared.op.TheConstants.{KEY_END};
+ghost use Rattle.core_steps.specs.Machine.{step_of, open_step, close_step, swap_step, trim_step, clear_step, put_step, in_hand, put_down, bytes_in, step_count, words_after, hand_after, places_after, CanTake, KeysFit, held_at};
 
 use crate::op::Op;
 use crate::words::CpuWords;
+use tag_model::state::{Hand, Held, Kind, Tag};
 
 /// One step on a word or on a place.
 #[derive(Clone, Copy, Debug, PartialEq, Eq)]
 pub enum WordStep {
     /// add-call of an allocation.
-    BeginAllocation { tag: Tag },
+    BeginAllocation {
+        tag: Tag,
+    },
     /// add-bytes.
-    AddBytes { size: u64 },
+    AddBytes {
+        size: u64,
+    },
+    /// add-call of a split.
+    AddCall,
+    /// sub-bytes.
+    SubtractBytes {
+        bytes: u64,
+    },
+    /// sub-call.
+    SubtractCall,
     /// write-cell: what the place then holds, and what the CPU then has in hand.
     Write {
         key: u32,
@@ -24,26 +37,34 @@ pub enum WordStep {
 }
 
 /// How many steps the op takes.
-pub fn step_count(op: Op) -> u32
+pub fn step_count(op: Op) -> u64
     ensures { result ≡ step_count op }
 {
     match op {
-        Op::Open { .. } => 3,
+        Op::Open { .. } | Op::Close { .. } | Op::Swap { .. } | Op::Trim { .. } => 3,
     }
 }
 
 /// The step that comes after so many.
-pub fn next_step(op: Op, done: u32) -> WordStep
-    ensures { result ≡ step_of op done }
+pub fn next_step(op: Op, done: u64, hand: Option<Hand>, places: &[Held]) -> WordStep
+    requires keys { KeysFit op }
+    requires places { length places.now ≡ KEY_END }
+    ensures { result ≡ step_of op done hand places.now }
 {
     match op {
         Op::Open {
-            key, index, size, ..
+            key,
+            index,
+            size,
+            ..
         } => open_step(key, index, size, done),
+        Op::Close { key } => close_step(key, done, hand, places),
+        Op::Swap { one, two } => swap_step(one, two, done, hand, places),
+        Op::Trim { key, bytes } => trim_step(key, bytes, done, hand, places),
     }
 }
 
-fn open_step(key: u32, index: u32, size: u64, done: u32) -> WordStep
+fn open_step(key: u32, index: u32, size: u64, done: u64) -> WordStep
     ensures { result ≡ open_step key index size done }
 {
     let tag = Tag {
@@ -58,6 +79,106 @@ fn open_step(key: u32, index: u32, size: u64, done: u32) -> WordStep
             held: Held::Counted { tag, size },
             hand: None,
         },
+    }
+}
+
+fn close_step(key: u32, done: u64, hand: Option<Hand>, places: &[Held]) -> WordStep
+    requires { key < length places.now }
+    ensures { result ≡ close_step key done hand places.now }
+{
+    match done {
+        0 => clear_step(key, places),
+        1 => WordStep::SubtractBytes {
+            bytes: bytes_in(hand),
+        },
+        _ => WordStep::SubtractCall,
+    }
+}
+
+fn swap_step(one: u32, two: u32, done: u64, hand: Option<Hand>, places: &[Held]) -> WordStep
+    requires one { one < length places.now }
+    requires two { two < length places.now }
+    ensures { result ≡ swap_step one two done hand places.now }
+{
+    match done {
+        0 => clear_step(one, places),
+        1 => WordStep::Write {
+            key: two,
+            held: put_down(hand),
+            hand: in_hand(places[two as usize]),
+        },
+        _ => put_step(one, hand),
+    }
+}
+
+fn trim_step(key: u32, bytes: u64, done: u64, hand: Option<Hand>, places: &[Held]) -> WordStep
+    requires { key < length places.now }
+    ensures { result ≡ trim_step key bytes done hand places.now }
+{
+    match done {
+        0 => clear_step(key, places),
+        1 => WordStep::SubtractBytes { bytes },
+        _ => put_step(key, hand),
+    }
+}
+
+/// The place is cleared, and what it held is taken in hand.
+fn clear_step(key: u32, places: &[Held]) -> WordStep
+    requires { key < length places.now }
+    ensures { result ≡ clear_step key places.now }
+{
+    WordStep::Write {
+        key,
+        held: Held::None,
+        hand: in_hand(places[key as usize]),
+    }
+}
+
+/// What is in hand is written into the place.
+fn put_step(key: u32, hand: Option<Hand>) -> WordStep
+    ensures { result ≡ put_step key hand }
+{
+    WordStep::Write {
+        key,
+        held: put_down(hand),
+        hand: None,
+    }
+}
+
+/// A reference that is taken in hand.
+fn in_hand(held: Held) -> Option<Hand>
+    ensures { result ≡ in_hand held }
+{
+    match held {
+        Held::None | Held::Empty => None,
+        Held::Counted { tag, size } => Some(Hand {
+            tag,
+            bytes: size,
+            calls: 1,
+            opening: false,
+        }),
+    }
+}
+
+/// The reference that a hand is put down as.
+fn put_down(hand: Option<Hand>) -> Held
+    ensures { result ≡ put_down hand }
+{
+    match hand {
+        Some(held) => Held::Counted {
+            tag: held.tag,
+            size: held.bytes,
+        },
+        None => Held::None,
+    }
+}
+
+fn bytes_in(hand: Option<Hand>) -> u64
+    ensures { result ≡ bytes_in hand }
+{
+    match hand {
+        Some(held) => held.bytes,
+        None => 0,
     }
 }
 
@@ -79,6 +200,9 @@ pub fn take(step: WordStep, words: &mut CpuWords, hand: &mut Option<Hand>, place
             });
         }
         WordStep::AddBytes { size } => add_bytes(words, hand, size),
+        WordStep::AddCall => add_call(words, hand),
+        WordStep::SubtractBytes { bytes } => subtract_bytes(words, hand, bytes),
+        WordStep::SubtractCall => subtract_call(words, hand),
         WordStep::Write {
             key,
             held,
@@ -100,4 +224,51 @@ fn add_bytes(words: &mut CpuWords, hand: &mut Option<Hand>, size: u64)
         held.bytes = size;
         *hand = Some(held);
     }
+}
+
+fn add_call(words: &mut CpuWords, hand: &mut Option<Hand>)
+    requires { CanTake WordStep.AddCall hand.old (length words.old) 0 }
+    ensures words { words.new ≡ words_after WordStep.AddCall hand.old words.old }
+    ensures hand { hand.new ≡ hand_after WordStep.AddCall hand.old }
+{
+    if let Some(mut held) = *hand {
+        words.raise(Kind::Calls, held.tag.number, 1);
+        held.calls += 1;
+        *hand = Some(held);
+    }
+}
+
+fn subtract_bytes(words: &mut CpuWords, hand: &mut Option<Hand>, bytes: u64)
+    requires { CanTake (WordStep.SubtractBytes bytes) hand.old (length words.old) 0 }
+    ensures words { words.new ≡ words_after (WordStep.SubtractBytes bytes) hand.old words.old }
+    ensures hand { hand.new ≡ hand_after (WordStep.SubtractBytes bytes) hand.old }
+{
+    if let Some(mut held) = *hand {
+        words.lower(Kind::Bytes, held.tag.number, bytes);
+        held.bytes -= bytes;
+        *hand = Some(held);
+    }
+}
+
+fn subtract_call(words: &mut CpuWords, hand: &mut Option<Hand>)
+    requires { CanTake WordStep.SubtractCall hand.old (length words.old) 0 }
+    ensures words { words.new ≡ words_after WordStep.SubtractCall hand.old words.old }
+    ensures hand { hand.new ≡ hand_after WordStep.SubtractCall hand.old }
+{
+    if let Some(held) = *hand {
+        words.lower(Kind::Calls, held.tag.number, 1);
+        *hand = without_call(held);
+    }
+}
+
+/// The hand with a call less, or none where that was its last.
+fn without_call(mut hand: Hand) -> Option<Hand>
+    requires { 0 < hand.calls }
+    ensures { result ≡ without_call hand }
+{
+    if hand.calls == 1 {
+        return None;
+    }
+    hand.calls -= 1;
+    Some(hand)
 }

@@ -1,5 +1,5 @@
 ghost use Rattle.std.specs.Prelude.{◌≡◌, ℕ, ◌*◌, ◌+◌, ◌<◌, List, length, replicate, IfOk, slice_index};
-ghost use Rattle.tag_model.specs.StepRules.{raised};
+ghost use Rattle.tag_model.specs.StepRules.{raised, lowered};
 ghost use Rattle.tag_model.specs.WordState.{word_place};
 
 use std::alloc::{AllocError, Global};
@@ -53,5 +53,14 @@ impl CpuWords {
     {
         let at = place(kind, tag);
         self.words[at] = self.words[at].wrapping_add(by);
+    }
+
+    /// Subtracts from a word, which wraps.
+    pub fn lower(&mut self, kind: Kind, tag: u32, by: u64)
+        requires { word_place kind tag < length self.old }
+        ensures { self.new ≡ lowered kind tag by self.old }
+    {
+        let at = place(kind, tag);
+        self.words[at] = self.words[at].wrapping_sub(by);
     }
 }

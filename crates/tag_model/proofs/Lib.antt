@@ -3,6 +3,7 @@ pub mod CpuFits
 pub mod CpuRows
 pub mod Found
 pub mod Lists
+pub mod Live
 pub mod Moved
 pub mod Parts
 pub mod PlaceRow

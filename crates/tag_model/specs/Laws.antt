@@ -1,9 +1,11 @@
 -- The laws that every state of the machine meets, between any two steps of any CPUs.
 use Rattle.std.specs.Prelude.{◌≡◌, ℕ, ◌+◌, ◌<◌, ◌≤◌, ◌==◌, ◌&&◌, ◌||◌, ◌⊎◌, not, nat_lt, nat_le, Bool, true, false, IsTrue, if◌then◌else◌, Option, Some, None, List, [], ◌∷◌, length, count_by, sum_by}
-use Rattle.std.specs.List.{list_any, list_all}
+use Rattle.std.specs.List.{list_any, list_all, flat_map}
 use Rattle.tag_model.specs.declared.shape.Shape.{Shape}
 use Rattle.tag_model.specs.declared.state.Tag.{Tag}
 use Rattle.tag_model.specs.declared.state.Hand.{Hand}
+use Rattle.tag_model.specs.declared.state.Held.{Held}
+use Rattle.tag_model.specs.declared.state.Held.TheVariants as held
 use Rattle.tag_model.specs.declared.state.Kind.{Kind}
 use Rattle.tag_model.specs.declared.state.Kind.TheVariants.{Bytes, Calls}
 use Rattle.tag_model.specs.declared.state.Run.{Run}
@@ -190,3 +192,21 @@ has_hand (NextId id) = 0
 pub record Quiet (parts : List Part) : Type 0 where
   pub no_hand : sum_by has_hand parts ≡ 0
   pub not_reading : sum_by (of_reader (λ r. 1)) parts ≡ 0
+
+-- ---- the live list
+
+abbrev pub is_held : Held → Bool
+is_held held.None = false
+is_held held.Empty = true
+is_held (held.Counted tag size) = true
+
+-- a place that holds something, with what it holds
+abbrev pub live_pair : Part → List (ℕ × Held)
+live_pair (Cpu c) = []
+live_pair (Place number held) = if is_held held then (number, held) ∷ [] else []
+live_pair (Modules l) = []
+live_pair (NextId id) = []
+
+-- the live list of a state
+abbrev pub live_of : List Part → List (ℕ × Held)
+live_of parts = flat_map live_pair parts

@@ -4,5 +4,6 @@
 #![tactic(auto)]
 
 pub mod limits;
+pub mod rows;
 pub mod shape;
 pub mod state;

@@ -3,7 +3,8 @@ use Rattle.tag_model.specs.declared.state.Hand.{Hand}
 use Rattle.tag_model.specs.declared.state.Held.{Held}
 use Rattle.core_steps.specs.Machine.{machine_of, refusal_of}
 use Rattle.core_steps.specs.CoreState.{CoreState, IsCore, state_of}
-use Rattle.core_steps.proofs.Kept.{core_after, row_after, written}
+use Rattle.core_steps.proofs.Kept.{can_go, core_after, row_after, written}
+use Rattle.core_steps.proofs.Left.{left_lists}
 use Rattle.core_steps.proofs.Meaning.{moved_lists}
 use Rattle.core_steps.proofs.machine.Core.go_on.Goals as goal
 use Rattle.core_steps.proofs.machine.Core.go_on.Goals.{After-self-4-1}
@@ -23,32 +24,43 @@ core c = core_after (before c) c.args.cpu c.step_on.new.hands c.step_on.new.plac
 pub invariant_of-self : goal.invariant_of-self
 unfolding before
 invariant_of-self c =
-    rw (written c.self.inside.hands.len c.step_on.new.hands c.self.inside.hands.items (omega arith),
-        written c.self.inside.places.len c.step_on.new.places c.self.inside.places.items (omega arith),
-        written c.self.inside.waiting.len c.step_on.new.waiting c.self.inside.waiting.items (omega arith),
-        written c.self.inside.words.len c.step_on.new.words c.self.inside.words.items (omega arith))
+    rw (
+      written c.self.inside.hands.len c.step_on.new.hands c.self.inside.hands.items (omega arith),
+      written c.self.inside.places.len c.step_on.new.places c.self.inside.places.items (omega arith),
+      written c.self.inside.waiting.len c.step_on.new.waiting c.self.inside.waiting.items (omega arith),
+      written c.self.inside.words.len c.step_on.new.words c.self.inside.words.items (omega arith),
+    )
     (core c)
 
 pub returns-clause-safe : goal.returns-clause-safe
 unfolding before
 returns-clause-safe c =
-    rw (written c.self.inside.hands.len c.step_on.new.hands c.self.inside.hands.items (omega arith),
-        written c.self.inside.places.len c.step_on.new.places c.self.inside.places.items (omega arith),
-        written c.self.inside.waiting.len c.step_on.new.waiting c.self.inside.waiting.items (omega arith),
-        written c.self.inside.words.len c.step_on.new.words c.self.inside.words.items (omega arith))
+    rw (
+      written c.self.inside.hands.len c.step_on.new.hands c.self.inside.hands.items (omega arith),
+      written c.self.inside.places.len c.step_on.new.places c.self.inside.places.items (omega arith),
+      written c.self.inside.waiting.len c.step_on.new.waiting c.self.inside.waiting.items (omega arith),
+      written c.self.inside.words.len c.step_on.new.words c.self.inside.words.items (omega arith),
+    )
     (core c).safe
 
 pub returns-clause-row : goal.returns-clause-row
 unfolding before
 returns-clause-row c =
-    rw (← c.self.view_is,
-        written c.self.inside.hands.len c.step_on.new.hands c.self.inside.hands.items (omega arith),
-        written c.self.inside.places.len c.step_on.new.places c.self.inside.places.items (omega arith),
-        written c.self.inside.waiting.len c.step_on.new.waiting c.self.inside.waiting.items (omega arith),
-        written c.self.inside.words.len c.step_on.new.words c.self.inside.words.items (omega arith))
+    rw (
+      ← c.self.view_is,
+      written c.self.inside.hands.len c.step_on.new.hands c.self.inside.hands.items (omega arith),
+      written c.self.inside.places.len c.step_on.new.places c.self.inside.places.items (omega arith),
+      written c.self.inside.waiting.len c.step_on.new.waiting c.self.inside.waiting.items (omega arith),
+      written c.self.inside.words.len c.step_on.new.words c.self.inside.words.items (omega arith),
+    )
     (row_after (before c) c.args.cpu c.step_on.new.hands c.step_on.new.places c.step_on.new.waiting c.step_on.new.words c.self.invariant c.step_on.result
-      (rw (c.as_mut_slice.ensures.value, c.as_mut_slice-2.ensures.value, c.as_mut_slice-3.ensures.value) at c.step_on.ensures.answer)
-      (rw (c.as_mut_slice.ensures.value, c.as_mut_slice-2.ensures.value, c.as_mut_slice-3.ensures.value, c.as_mut_slice-4.ensures.value) at c.step_on.ensures.ok))
+    (rw (c.as_mut_slice.ensures.value, c.as_mut_slice-2.ensures.value, c.as_mut_slice-3.ensures.value) at c.step_on.ensures.answer)
+    (rw (c.as_mut_slice.ensures.value, c.as_mut_slice-2.ensures.value, c.as_mut_slice-3.ensures.value, c.as_mut_slice-4.ensures.value) at c.step_on.ensures.ok))
+
+pub step_on-requires : goal.step_on-requires
+step_on-requires c =
+    rw (c.as_mut_slice.ensures.value, c.as_mut_slice-2.ensures.value, c.as_mut_slice-3.ensures.value, c.as_mut_slice-4.ensures.value)
+    (can_go (record { shape = c.self.inside.shape; kernel_len = c.self.inside.kernel_len; machine = machine_of c.self.inside.hands.items c.self.inside.places.items c.self.inside.waiting.items; words = c.self.inside.words.items }) c.args.cpu c.self.invariant)
 
 pub returns-clause-moved : goal.returns-clause-moved
 unfolding before
@@ -59,5 +71,16 @@ returns-clause-moved c = λ moves.
         written c.self.inside.waiting.len c.step_on.new.waiting c.self.inside.waiting.items (omega arith),
         written c.self.inside.words.len c.step_on.new.words c.self.inside.words.items (omega arith))
     (moved_lists (before c) c.args.cpu c.step_on.new.hands c.step_on.new.places c.step_on.new.waiting c.step_on.new.words c.step_on.result moves c.self.invariant
+      (rw (c.as_mut_slice.ensures.value, c.as_mut_slice-2.ensures.value, c.as_mut_slice-3.ensures.value) at c.step_on.ensures.answer)
+      (rw (c.as_mut_slice.ensures.value, c.as_mut_slice-2.ensures.value, c.as_mut_slice-3.ensures.value, c.as_mut_slice-4.ensures.value) at c.step_on.ensures.ok))
+
+pub returns-clause-left : goal.returns-clause-left
+unfolding before
+returns-clause-left c =
+    rw (
+      ← c.self.view_is,
+      written c.self.inside.waiting.len c.step_on.new.waiting c.self.inside.waiting.items (omega arith),
+    )
+    (left_lists (before c) c.args.cpu (machine_of c.step_on.new.hands c.step_on.new.places c.step_on.new.waiting) c.step_on.new.words c.step_on.result c.self.invariant
       (rw (c.as_mut_slice.ensures.value, c.as_mut_slice-2.ensures.value, c.as_mut_slice-3.ensures.value) at c.step_on.ensures.answer)
       (rw (c.as_mut_slice.ensures.value, c.as_mut_slice-2.ensures.value, c.as_mut_slice-3.ensures.value, c.as_mut_slice-4.ensures.value) at c.step_on.ensures.ok))

@@ -1,0 +1,45 @@
+-- A step that is taken leaves its actor one step less.
+use Rattle.std.proofs.Common.{◌≡◌, ℕ, ◌+◌, ◌-◌, ◌<◌, ◌≤◌, ◌==◌, List, [], ◌∷◌, length, get_or, set, refl, sym, ap, ◌∙◌, subst, arith, Option, Some, None, Bool, true, false, inl, inr, sum_by, Result, Ok, Err, OnOk, MatchOption}
+use Rattle.std.proofs.lemmas.Bool.Decides.{nat_tests}
+use Rattle.std.proofs.lemmas.Bool.{cases_lt}
+use Rattle.std.proofs.lemmas.List.{get_or-set_same, get_or_past}
+use Rattle.std.proofs.lemmas.List.Sums.{sum_by-cons}
+use Rattle.core_steps.specs.declared.op.Op.{Op}
+use Rattle.core_steps.specs.declared.op.Event.{Event}
+use Rattle.core_steps.specs.declared.op.StepRefused.{StepRefused}
+use Rattle.core_steps.specs.declared.op.StepRefused.TheVariants.{NoStep}
+use Rattle.core_steps.specs.Machine.{Machine, Waiting, nothing_waits, waiting_at, step_count, advanced, refusal_in, refusal_of, stepped_by, after_step}
+use Rattle.core_steps.specs.CoreState.{CoreState, IsCore, CanStep, words_after_step}
+use Rattle.core_steps.proofs.Kept.{Answers, can_go, refusal_none}
+use Rattle.core_steps.specs.StepsLeft.{cpu_steps_left}
+
+left_of : Waiting → ℕ
+left_of w = sum_by step_count w.ops - w.done
+
+left_advanced : (op : Op) (ops : List Op) (done : ℕ) → done < step_count op → left_of (record { ops = op ∷ ops; done = done }) ≡ left_of (advanced (op ∷ ops) done) + 1
+unfolding left_of
+left_advanced op ops done within = let all = sum_by-cons step_count op ops in by_test (done + 1 == step_count op) refl
+  where
+  by_test : (last : Bool) → (done + 1 == step_count op) ≡ last → sum_by step_count (op ∷ ops) - done ≡ left_of (advanced (op ∷ ops) done) + 1
+  by_test true e = let f : done + 1 ≡ step_count op = grind (arith, nat_tests) in rw e (omega (arith, sum_by-cons step_count op ops))
+  by_test false e = rw e (omega (arith, sum_by-cons step_count op ops))
+
+left_stepped : (words : List (List ℕ)) (m : Machine) (cpu : ℕ) (ops : List Op) (done : ℕ) → cpu < length m.waiting → CanStep m words cpu ops done → refusal_in m ops done ≡ None
+    → left_of (record { ops = ops; done = done }) ≡ left_of (waiting_at (stepped_by m cpu ops done) cpu) + 1
+left_stepped words m cpu [] done below can none = cc
+left_stepped words m cpu (op ∷ ops) done below can none =
+    left_advanced op ops done can.1
+    ∙ ap (λ (w : Waiting). left_of w + 1) (sym (get_or-set_same m.waiting cpu (advanced (op ∷ ops) done) nothing_waits below))
+
+left_after : (s : CoreState) (cpu : ℕ) → IsCore s → refusal_of s.machine cpu ≡ None → cpu_steps_left s.machine cpu ≡ cpu_steps_left (after_step s.machine cpu) cpu + 1
+unfolding left_of
+left_after s cpu core none = elim (cases_lt cpu (length s.machine.waiting)) [
+    | inl below ↦ left_stepped s.words s.machine cpu (waiting_at s.machine cpu).ops (waiting_at s.machine cpu).done below ((can_go s cpu core).step below) none
+    | inr past ↦ let bad : refusal_of s.machine cpu ≡ Some NoStep = rw (get_or_past s.machine.waiting cpu nothing_waits past) refl in cc
+    ]
+
+-- what `go` leaves, by its answer
+pub left_lists : (s : CoreState) (cpu : ℕ) (m : Machine) (words : List (List ℕ)) (r : Result Event StepRefused) → IsCore s → Answers (refusal_of s.machine cpu) r
+    → OnOk r ((m ≡ after_step s.machine cpu) × (words ≡ words_after_step s.machine s.words cpu)) → OnOk r (cpu_steps_left s.machine cpu ≡ cpu_steps_left m cpu + 1)
+left_lists s cpu m words (Ok e) core answer ok = rw ok.0 (left_after s cpu core (refusal_none s cpu e answer))
+left_lists s cpu m words (Err e) core answer ok = tt
