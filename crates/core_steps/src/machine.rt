@@ -1,6 +1,7 @@
 //! The core: every CPU's words, hand and ops, and every place, on plain vectors.
 
-ghost use Rattle.std.specs.Prelude.{◌≡◌, ℕ, ◌*◌, ◌+◌, ◌<◌, ◌≤◌, ◌↔◌, length, replicate, MatchOption, IfOk, OnOk, OnErr, IsErrOf, Some, None, slice_get, slice_index_or, slice_set, List, IsTrue};
+ghost use Rattle.tag_model.specs.WordState.{word_place};
+ghost use Rattle.std.specs.Prelude.{[], slice_index, ◌≡◌, ℕ, ◌*◌, ◌+◌, ◌<◌, ◌≤◌, ◌↔◌, length, replicate, MatchOption, IfOk, OnOk, OnErr, IsErrOf, Some, None, slice_get, slice_index_or, slice_set, List, IsTrue};
 ghost use Rattle.tag_model.specs.Shape.{IsChecked};
 ghost use Rattle.tag_model.specs.StepRules.{Steps};
 ghost use Rattle.tag_model.specs.Laws.{Safe};
@@ -78,6 +79,15 @@ fn empty_places(alloc: Global, count: u32) -> Result<Vec<Held>, AllocError>
         places.push(Held::None)?;
     }
     Ok(places)
+}
+
+fn is_idle(waiting: &[Pending], cpu: usize) -> bool
+    ensures { IsTrue result ↔ ((slice_index_or waiting.now cpu nothing_waits).ops ≡ []) }
+{
+    match waiting.get(cpu) {
+        Some(pending) => pending.len() == 0,
+        None => true,
+    }
 }
 
 fn push_op(pending: &mut Pending, op: Op) -> Result<(), QueueError>
@@ -220,6 +230,26 @@ impl Core {
             self.waiting.as_mut_slice(),
             self.words.as_mut_slice(),
         )
+    }
+
+    /// Whether the actor has nothing queued or under way.
+    pub fn idle(&self, actor: Actor) -> bool
+        ensures { IsTrue result ↔ (ops_of self.now actor ≡ []) }
+    {
+        match actor {
+            Actor::Cpu(cpu) => is_idle(self.waiting.as_slice(), cpu as usize),
+        }
+    }
+
+    /// A CPU's byte word and call word of the tag.
+    pub fn cpu_word(&self, cpu: u32, tag: u32) -> (u64, u64)
+        requires cpu { cpu < self.now.shape.cpus }
+        requires tag { tag < self.now.shape.tags }
+        ensures bytes { result.0 ≡ slice_index (words_at self.now.words cpu) (word_place Bytes tag) }
+        ensures calls { result.1 ≡ slice_index (words_at self.now.words cpu) (word_place Calls tag) }
+    {
+        let own = &self.words[cpu as usize];
+        (own.read(Kind::Bytes, tag), own.read(Kind::Calls, tag))
     }
 
     /// The tag's byte words and call words, added over the CPUs. They wrap.

@@ -23,10 +23,10 @@ actor_of step_actor.Manager = None
 
 abbrev pub op_of : StepOp → Option Op
 op_of (step_op.Open key section index size) = Some (op.Open key section index size)
-op_of (step_op.Close key) = None
+op_of (step_op.Close key) = Some (op.Close key)
 op_of (step_op.Split key parts first) = None
-op_of (step_op.Swap one two) = None
-op_of (step_op.Trim key bytes) = None
+op_of (step_op.Swap one two) = Some (op.Swap one two)
+op_of (step_op.Trim key bytes) = Some (op.Trim key bytes)
 op_of (step_op.Enter section) = None
 op_of (step_op.Leave section) = None
 op_of (step_op.Load section) = None
@@ -44,3 +44,5 @@ act_of (step_act.Words section index) = Some (act.Words section index)
 abbrev pub code_of : StepRefused → Code
 code_of refused.NoStep = code.NoStep
 code_of (refused.KeyUsed key) = code.KeyUsed key
+code_of (refused.NotLive key) = code.NotLive key
+code_of refused.TooSmall = code.TooSmall

@@ -1,5 +1,5 @@
 -- What a schedule prints of the moves so far.
-use Rattle.std.specs.Prelude.{ℕ, List, [], ◌∷◌, ◌++◌, length, map, sum_by, codes, decimal}
+use Rattle.std.specs.Prelude.{false, ℕ, List, [], ◌∷◌, ◌++◌, length, map, sum_by, codes, decimal}
 use Rattle.std.specs.List.{range_with_len, flat_map}
 use Rattle.tag_model.specs.declared.shape.Shape.{Shape}
 use Rattle.tag_model.specs.declared.state.Kind.{Kind}
@@ -7,11 +7,17 @@ use Rattle.tag_model.specs.declared.state.Kind.TheVariants.{Bytes, Calls}
 use Rattle.tag_model.specs.Wrap.{wrap}
 use Rattle.tag_model.specs.Moves.{Move, moved_word}
 use Rattle.tag_section.specs.Section.{Section, section_at}
+use Rattle.allocinfo.specs.declared.rows.Row.{Row}
+use Rattle.allocinfo.specs.Text.{rows_text}
 
 -- the sizes and the sections that a schedule is about
 pub record Setting : Type 0 where
   pub shape : Shape
   pub sections : List Section
+
+-- how many tags the kernel's section has
+abbrev pub kernel_len : Setting → ℕ
+kernel_len s = length (section_at s.sections 0).tags
 
 -- `cpu C bytes B calls K`
 abbrev pub cpu_line : List Move → ℕ → ℕ → List ℕ
@@ -25,6 +31,11 @@ words_text cpus moves tag = flat_map (cpu_line moves tag) (range_with_len 0 cpus
 abbrev pub total_moved : ℕ → List Move → Kind → ℕ → ℕ
 total_moved cpus moves kind tag = wrap (sum_by (λ cpu. moved_word moves cpu kind tag) (range_with_len 0 cpus))
 
+-- the kernel's rows: for each of its tags the sums of its words
+abbrev pub kernel_rows : Setting → List Move → List Row
+kernel_rows s moves = map (λ tag. record { bytes = total_moved s.shape.cpus moves Bytes tag; calls = total_moved s.shape.cpus moves Calls tag; section = 0; index = tag; kept = false })
+    (range_with_len 0 (kernel_len s))
+
 -- allocinfo of the sums
 abbrev pub allocinfo_text : Setting → List Move → List ℕ
-allocinfo_text s moves = []
+allocinfo_text s moves = rows_text s.sections (kernel_rows s moves)

@@ -26,7 +26,7 @@ use Rattle.profile_top.specs.declared.act.ActError.TheVariants as error
 use Rattle.profile_top.specs.declared.act.Act.{Act}
 use Rattle.profile_top.specs.declared.act.Act.TheVariants as act
 use Rattle.tag_model.specs.Shape.{IsChecked}
-use Rattle.profile_top.specs.Printed.{Setting, allocinfo_text, words_text}
+use Rattle.profile_top.specs.Printed.{Setting, kernel_len, allocinfo_text, words_text}
 
 pub record Played : Type 0 where
   pub machine : Machine
@@ -104,7 +104,7 @@ play s (line ∷ lines) p = at line.line (asks s (act_of line.act) p) then (play
 
 -- the core and the text are those of what was played
 pub record Shows (s : Setting) (now : CoreState) (written : List ℕ) (p : Played) : Type 0 where
-  pub core : now ≡ core_of s.shape (length (section_at s.sections 0).tags) p.machine p.moves
+  pub core : now ≡ core_of s.shape (kernel_len s) p.machine p.moves
   pub text : written ≡ p.text
 
 -- A call left what the meaning says, unless memory ran out; a refusal is the meaning's.
@@ -116,14 +116,14 @@ Follows s (Err (error.Memory want)) core text meant = ⊤
 
 -- what a line needs of the core
 abbrev pub IsAct : Setting → Act → Type 0
-IsAct s (act.Do (actor.Cpu cpu) op) = (cpu < s.shape.cpus) × IsOp (length (section_at s.sections 0).tags) op
+IsAct s (act.Do (actor.Cpu cpu) op) = (cpu < s.shape.cpus) × IsOp (kernel_len s) op
 IsAct s (act.Go (actor.Cpu cpu) count) = ⊤
 IsAct s act.Print = ⊤
-IsAct s (act.Words section index) = index < length (section_at s.sections 0).tags
+IsAct s (act.Words section index) = index < kernel_len s
 
 -- the kernel's section fits the shape
 pub record IsSetting (s : Setting) : Type 0 where
   pub kernel : 0 < length s.sections
-  pub some_tag : 0 < length (section_at s.sections 0).tags
-  pub fits : length (section_at s.sections 0).tags ≤ s.shape.kernel_tags
+  pub some_tag : 0 < kernel_len s
+  pub fits : kernel_len s ≤ s.shape.kernel_tags
   pub checked : IsChecked s.shape

@@ -59,6 +59,9 @@ fn op_of(op: StepOp) -> Option<Op>
             index,
             size,
         }),
+        StepOp::Close { key } => Some(Op::Close { key }),
+        StepOp::Swap { one, two } => Some(Op::Swap { one, two }),
+        StepOp::Trim { key, bytes } => Some(Op::Trim { key, bytes }),
         _ => None,
     }
 }
@@ -88,6 +91,8 @@ pub(crate) fn code_of(why: StepRefused) -> Code
 {
     match why {
         StepRefused::NoStep => Code::NoStep,
+        StepRefused::NotLive(key) => Code::NotLive(key),
         StepRefused::KeyUsed(key) => Code::KeyUsed(key),
+        StepRefused::TooSmall => Code::TooSmall,
     }
 }
