@@ -43,3 +43,19 @@ pub left_lists : (s : CoreState) (cpu : ℕ) (m : Machine) (words : List (List �
     → OnOk r ((m ≡ after_step s.machine cpu) × (words ≡ words_after_step s.machine s.words cpu)) → OnOk r (cpu_steps_left s.machine cpu ≡ cpu_steps_left m cpu + 1)
 left_lists s cpu m words (Ok e) core answer ok = rw ok.0 (left_after s cpu core (refusal_none s cpu e answer))
 left_lists s cpu m words (Err e) core answer ok = tt
+
+none_waits : (words : List (List ℕ)) (m : Machine) (cpu : ℕ) (ops : List Op) (done : ℕ) → CanStep m words cpu ops done → left_of (record { ops = ops; done = done }) ≡ 0 → ops ≡ []
+unfolding left_of
+none_waits words m cpu [] done can h = refl
+none_waits words m cpu (op ∷ ops) done can h = absurd (omega (arith, sum_by-cons step_count op ops, can.1))
+
+-- no step is left exactly where no op waits
+pub left_none : (s : CoreState) (cpu : ℕ) → IsCore s → cpu_steps_left s.machine cpu ≡ 0 → (waiting_at s.machine cpu).ops ≡ []
+unfolding left_of
+left_none s cpu core h = elim (cases_lt cpu (length s.machine.waiting)) [
+    | inl below ↦ none_waits s.words s.machine cpu (waiting_at s.machine cpu).ops (waiting_at s.machine cpu).done ((can_go s cpu core).step below) h
+    | inr past ↦ ap (λ (w : Waiting). w.ops) (get_or_past s.machine.waiting cpu nothing_waits past)
+    ]
+
+pub left_zero : (w : Waiting) → w.ops ≡ [] → sum_by step_count w.ops - w.done ≡ 0
+left_zero w e = rw e (omega arith)

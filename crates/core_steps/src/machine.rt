@@ -6,7 +6,7 @@ ghost use Rattle.tag_model.specs.Shape.{IsChecked};
 ghost use Rattle.tag_model.specs.StepRules.{Steps};
 ghost use Rattle.tag_model.specs.Laws.{Safe};
 ghost use Rattle.core_steps.specs.declared.op.TheConstants.{MAX_QUEUED};
-ghost use Rattle.core_steps.specs.Machine.{nothing_waits, after_step, refusal_of, machine_of};
+ghost use Rattle.core_steps.specs.Machine.{waiting_at, nothing_waits, after_step, refusal_of, machine_of};
 ghost use Rattle.core_steps.specs.CoreState.{CanGo, words_after_step, with_op, words_at, total_of};
 ghost use Rattle.tag_model.specs.declared.state.Held.TheVariants as held;
 
@@ -234,11 +234,19 @@ impl Core {
 
     /// Whether the actor has nothing queued or under way.
     pub fn idle(&self, actor: Actor) -> bool
-        ensures { IsTrue result ↔ (ops_of self.now actor ≡ []) }
+        ensures empty { IsTrue result ↔ (ops_of self.now actor ≡ []) }
+        ensures left { IsTrue result ↔ (steps_left self.now actor ≡ 0) }
     {
         match actor {
-            Actor::Cpu(cpu) => is_idle(self.waiting.as_slice(), cpu as usize),
+            Actor::Cpu(cpu) => self.is_idle(cpu),
         }
+    }
+
+    fn is_idle(&self, cpu: u32) -> bool
+        ensures empty { IsTrue result ↔ ((waiting_at self.now.machine cpu).ops ≡ []) }
+        ensures left { IsTrue result ↔ (cpu_steps_left self.now.machine cpu ≡ 0) }
+    {
+        is_idle(self.waiting.as_slice(), cpu as usize)
     }
 
     /// A CPU's byte word and call word of the tag.

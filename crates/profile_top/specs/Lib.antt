@@ -1,3 +1,4 @@
 pub mod Printed
 pub mod Acts
 pub mod Schedule
+pub mod Answers

@@ -31,10 +31,13 @@ words_text cpus moves tag = flat_map (cpu_line moves tag) (range_with_len 0 cpus
 abbrev pub total_moved : ℕ → List Move → Kind → ℕ → ℕ
 total_moved cpus moves kind tag = wrap (sum_by (λ cpu. moved_word moves cpu kind tag) (range_with_len 0 cpus))
 
--- the kernel's rows: for each of its tags the sums of its words
+-- the rows of the kernel's first tags: for each the sums of its words
+abbrev pub rows_below : Setting → List Move → ℕ → List Row
+rows_below s moves n = map (λ tag. record { bytes = total_moved s.shape.cpus moves Bytes tag; calls = total_moved s.shape.cpus moves Calls tag; section = 0; index = tag; kept = false }) (range_with_len 0 n)
+
+-- the kernel's rows
 abbrev pub kernel_rows : Setting → List Move → List Row
-kernel_rows s moves = map (λ tag. record { bytes = total_moved s.shape.cpus moves Bytes tag; calls = total_moved s.shape.cpus moves Calls tag; section = 0; index = tag; kept = false })
-    (range_with_len 0 (kernel_len s))
+kernel_rows s moves = rows_below s moves (kernel_len s)
 
 -- allocinfo of the sums
 abbrev pub allocinfo_text : Setting → List Move → List ℕ

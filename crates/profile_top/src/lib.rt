@@ -2,5 +2,6 @@
 #![tactic(auto)]
 
 mod act;
+mod answer;
 mod play;
 

@@ -44,7 +44,9 @@ fn play_steps(core: &mut Core, actor: Actor, count: u32) -> Result<(), ActError>
     ensures { (s : Setting) (text : List ℕ) (p : Played) → Shows s core.old text p → Follows s result core.new text (steps_on actor count p) }
 {
     for _step in 0..count {
-        play_step(core, actor)?;
+        if let Err(error) = play_step(core, actor) {
+            return Err(error);
+        }
     }
     Ok(())
 }
@@ -54,7 +56,9 @@ fn play_all(core: &mut Core, actor: Actor) -> Result<(), ActError>
     ensures { (s : Setting) (text : List ℕ) (p : Played) → Shows s core.old text p → Follows s result core.new text (steps_on actor (asked actor None p) p) }
 {
     while !core.idle(actor) {
-        play_step(core, actor)?;
+        if let Err(error) = play_step(core, actor) {
+            return Err(error);
+        }
     }
     Ok(())
 }

@@ -1,0 +1,58 @@
+-- Steps one after the other.
+use Rattle.std.proofs.Common.{◌≡◌, ℕ, zero, suc, ◌+◌, ◌-◌, ◌<◌, ◌≤◌, List, [], refl, sym, ap, ◌∙◌, subst, arith, Option, Some, None, Result, Ok, Err, Bool, true, false, IsTrue, ◌↔◌}
+use Rattle.core_steps.specs.declared.op.Actor.{Actor}
+use Rattle.core_steps.specs.declared.op.Actor.TheVariants as actor
+use Rattle.core_steps.specs.CoreState.{CoreState}
+use Rattle.trace.specs.declared.code.Code.{Code}
+use Rattle.trace.specs.Judging.{◌>>=◌}
+use Rattle.profile_top.specs.declared.act.ActError.{ActError}
+use Rattle.profile_top.specs.declared.act.ActError.TheVariants as error
+use Rattle.profile_top.specs.Printed.{Setting}
+use Rattle.profile_top.specs.Schedule.{Played, Shows, Follows, one_step, steps_taken, steps_on}
+
+bind_ok : (r : Result Played Code) → (r >>= (λ p. Ok p)) ≡ r
+bind_ok (Ok p) = refl
+bind_ok (Err e) = refl
+
+bind_assoc : (r : Result Played Code) (f : Played → Result Played Code) → ((r >>= (λ p. Ok p)) >>= f) ≡ (r >>= f)
+bind_assoc (Ok p) f = refl
+bind_assoc (Err e) f = refl
+
+-- one step, and then the others
+pub steps_first : (who : Actor) (n : ℕ) (p : Played) → steps_on who (suc n) p ≡ (steps_on who 1 p >>= steps_on who n)
+steps_first (actor.Cpu cpu) n p = sym (bind_assoc (one_step cpu p) (steps_taken cpu n))
+
+-- what a loop of steps keeps: somebody played so far, and what is left from there is all
+pub record Goes (s : Setting) (who : Actor) (now : CoreState) (text : List ℕ) (left n : ℕ) (start : Played) : Type 0 where
+  pub played : Played
+  pub shows : Shows s now text played
+  pub rest : steps_on who n start ≡ steps_on who left played
+
+pub goes_first : (s : Setting) (who : Actor) (now : CoreState) (text : List ℕ) (left n : ℕ) (start : Played) → left ≡ n → Shows s now text start → Goes s who now text left n start
+goes_first s who now text left n start e shows = rw e (record { played = start; shows = shows; rest = refl })
+
+stepped_on : (s : Setting) (who : Actor) (next : CoreState) (text : List ℕ) (left n : ℕ) (start q : Played) → steps_on who n start ≡ steps_on who (suc left) q
+    → (X : Type 0) (x : X) (r : Result Played Code) → steps_on who 1 q ≡ r → Follows s (Ok x) next text r → Goes s who next text left n start
+stepped_on s who next text left n start q rest X x (Ok p) e f = record { played = p; shows = f; rest = rest ∙ steps_first who left q ∙ ap (λ (r : Result Played Code). r >>= steps_on who left) e }
+stepped_on s who next text left n start q rest X x (Err why) e f = absurd f
+
+-- one more
+pub goes_on : (s : Setting) (who : Actor) (now next : CoreState) (text : List ℕ) (before left n : ℕ) (start : Played) (X : Type 0) (x : X) → before ≡ suc left → (g : Goes s who now text before n start)
+    → Follows s (Ok x) next text (steps_on who 1 g.played) → Goes s who next text left n start
+goes_on s who now next text before left n start X x e g f =
+    stepped_on s who next text left n start g.played (g.rest ∙ ap (λ (k : ℕ). steps_on who k g.played) e) X x (steps_on who 1 g.played) refl f
+
+-- a step that is refused ends all
+pub goes_err : (s : Setting) (who : Actor) (now next : CoreState) (text : List ℕ) (before n : ℕ) (start : Played) (X Y : Type 0) (e : ActError) → 0 < before → (g : Goes s who now text before n start)
+    → Follows {X = X} s (Err e) next text (steps_on who 1 g.played) → Follows {X = Y} s (Err e) next text (steps_on who n start)
+goes_err s who now next text zero n start X Y e h g f = absurd (omega arith)
+goes_err s who now next text (suc left) n start X Y (error.Refused why) h g f = g.rest ∙ steps_first who left g.played ∙ ap (λ (r : Result Played Code). r >>= steps_on who left) f
+goes_err s who now next text (suc left) n start X Y (error.Memory want) h g f = tt
+
+pub goes_end : (s : Setting) (who : Actor) (now : CoreState) (text : List ℕ) (left n : ℕ) (start : Played) (X : Type 0) (x : X) → left ≡ 0 → (g : Goes s who now text left n start) → Follows s (Ok x) now text (steps_on who n start)
+goes_end s (actor.Cpu cpu) now text left n start X x e g = rw (g.rest ∙ ap (λ (k : ℕ). steps_taken cpu k g.played) e) g.shows
+
+-- an actor that isn't idle has a step left
+pub some_left : (left : ℕ) (idle : Bool) → (IsTrue idle ↔ (left ≡ 0)) → idle ≡ false → 0 < left
+some_left zero idle told h = let yes : idle ≡ true = told.1 refl in cc
+some_left (suc n) idle told h = omega arith

@@ -1,0 +1,43 @@
+-- A core's totals and words, where its words are the sums of moves.
+use Rattle.std.proofs.Common.{◌≡◌, ℕ, zero, suc, ◌+◌, ◌-◌, ◌*◌, ◌/◌, ◌%◌, ◌<◌, ◌≤◌, List, [], ◌∷◌, length, get_or, map, refl, sym, ap, ◌∙◌, subst, arith, sum_by, Bool, true, false}
+use Rattle.std.proofs.lemmas.Bool.Decides.{nat_tests}
+use Rattle.std.proofs.lemmas.List.FromFn.{length-map-range_with_len, get_or-map-range_with_len}
+use Rattle.std.proofs.lemmas.List.Sums.{sum_by-cons}
+use Rattle.std.specs.List.{range_with_len}
+use Rattle.tag_model.specs.declared.state.Kind.{Kind}
+use Rattle.tag_model.specs.declared.state.Kind.TheVariants.{Bytes, Calls}
+use Rattle.tag_model.specs.Wrap.{wrap}
+use Rattle.tag_model.specs.Moves.{Move, moved_word}
+use Rattle.tag_model.specs.WordState.{word_place}
+use Rattle.core_steps.specs.CoreState.{total_of}
+use Rattle.core_steps.specs.Moved.{kind_at, own_moved, words_moved}
+use Rattle.profile_top.specs.Printed.{total_moved}
+
+kind_here : (kind : Kind) (t : ℕ) → kind_at (word_place kind t) ≡ kind
+kind_here Bytes t = let even : (2 * t + 0) % 2 ≡ 0 = omega arith in rw even refl
+kind_here Calls t = let odd : (2 * t + 1) % 2 ≡ 1 = omega arith in rw odd refl
+
+half_here : (kind : Kind) (t : ℕ) → word_place kind t / 2 ≡ t
+half_here Bytes t = omega arith
+half_here Calls t = omega arith
+
+below_here : (kind : Kind) (tags t : ℕ) → t < tags → word_place kind t < 2 * tags
+below_here Bytes tags t h = omega arith
+below_here Calls tags t h = omega arith
+
+-- a word of a CPU
+pub word_here : (tags : ℕ) (moves : List Move) (cpu : ℕ) (kind : Kind) (t : ℕ) → t < tags → get_or (own_moved tags moves cpu) (word_place kind t) 0 ≡ moved_word moves cpu kind t
+word_here tags moves cpu kind t h =
+    get_or-map-range_with_len (λ q. moved_word moves cpu (kind_at q) (q / 2)) 0 (2 * tags) (word_place kind t) (word_place kind t) 0 (below_here kind tags t h) (omega arith)
+    ∙ ap (λ (k : Kind). moved_word moves cpu k (word_place kind t / 2)) (kind_here kind t) ∙ ap (moved_word moves cpu kind) (half_here kind t)
+
+sum_here : (tags : ℕ) (moves : List Move) (kind : Kind) (t : ℕ) → t < tags → (cpus : List ℕ)
+    → sum_by (λ (own : List ℕ). get_or own (word_place kind t) 0) (map (own_moved tags moves) cpus) ≡ sum_by (λ cpu. moved_word moves cpu kind t) cpus
+sum_here tags moves kind t h [] = refl
+sum_here tags moves kind t h (c ∷ cpus) =
+    omega (arith, sum_by-cons (λ (own : List ℕ). get_or own (word_place kind t) 0) (own_moved tags moves c) (map (own_moved tags moves) cpus), sum_by-cons (λ cpu. moved_word moves cpu kind t) c cpus,
+      word_here tags moves c kind t h, sum_here tags moves kind t h cpus)
+
+pub total_here : (cpus tags : ℕ) (moves : List Move) (kind : Kind) (t : ℕ) → t < tags → total_of (words_moved cpus tags moves) kind t ≡ total_moved cpus moves kind t
+unfolding words_moved
+total_here cpus tags moves kind t h = ap wrap (sum_here tags moves kind t h (range_with_len 0 cpus))
