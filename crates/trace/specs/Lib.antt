@@ -7,3 +7,4 @@ pub mod Head
 pub mod StepWords
 pub mod StepGrammar
 pub mod StepReading
+pub mod StepForm

@@ -1,8 +1,9 @@
 //! How a schedule is read.
 
-ghost use Rattle.std.specs.Prelude.{◌≡◌, ◌<◌, ◌≤◌, length, OnOk};
+ghost use Rattle.std.specs.Prelude.{◌≡◌, ◌<◌, ◌≤◌, length, IfOk, OnOk};
 ghost use Rattle.text_form.specs.Lines.{lines_of, tail_of};
 ghost use Rattle.trace.specs.Judging.{Leaves, Reads, error_at};
+ghost use Rattle.trace.specs.StepForm.{AreSteps};
 ghost use Rattle.trace.specs.StepReading.{empty_reading, in_body, keyword_line, step_line, step_lines, steps_from, steps_of, with_act, with_print};
 
 use crate::code::{Code, TextError};
@@ -168,7 +169,8 @@ fn step_lines(alloc: Global, text: &[u8]) -> Result<StepReading, TextError>
 #[tactic(auto, unfolding(crate::specs::StepReading::steps_of))]
 pub fn read_steps(alloc: Global, text: &[u8]) -> Result<Steps, TextError>
     requires { length text.now ≤ 4194304 }
-    ensures { Reads result (steps_of text.now) }
+    ensures value { Reads result (steps_of text.now) }
+    ensures formed { IfOk result AreSteps }
 {
     let rest = match first_line(b"memprof-steps 1.0", text) {
         Ok(rest) => rest,
