@@ -1,7 +1,7 @@
 -- A core's totals and words, where its words are the sums of moves.
-use Rattle.std.proofs.Common.{◌≡◌, ℕ, zero, suc, ◌+◌, ◌-◌, ◌*◌, ◌/◌, ◌%◌, ◌<◌, ◌≤◌, List, [], ◌∷◌, length, get_or, map, refl, sym, ap, ◌∙◌, subst, arith, sum_by, Bool, true, false}
+use Rattle.std.proofs.Common.{◌≡◌, ℕ, zero, suc, ◌+◌, ◌-◌, ◌*◌, ◌/◌, ◌%◌, ◌<◌, ◌≤◌, List, [], ◌∷◌, ◌++◌, length, get_or, map, refl, sym, ap, ◌∙◌, subst, arith, sum_by, Bool, true, false}
 use Rattle.std.proofs.lemmas.Bool.Decides.{nat_tests}
-use Rattle.std.proofs.lemmas.List.FromFn.{length-map-range_with_len, get_or-map-range_with_len}
+use Rattle.std.proofs.lemmas.List.FromFn.{length-map-range_with_len, get_or-map-range_with_len, map-range_with_len_more}
 use Rattle.std.proofs.lemmas.List.Sums.{sum_by-cons}
 use Rattle.std.specs.List.{range_with_len}
 use Rattle.tag_model.specs.declared.state.Kind.{Kind}
@@ -9,9 +9,12 @@ use Rattle.tag_model.specs.declared.state.Kind.TheVariants.{Bytes, Calls}
 use Rattle.tag_model.specs.Wrap.{wrap}
 use Rattle.tag_model.specs.Moves.{Move, moved_word}
 use Rattle.tag_model.specs.WordState.{word_place}
-use Rattle.core_steps.specs.CoreState.{total_of}
+use Rattle.core_steps.specs.CoreState.{CoreState, total_of}
 use Rattle.core_steps.specs.Moved.{kind_at, own_moved, words_moved}
-use Rattle.profile_top.specs.Printed.{total_moved}
+use Rattle.tag_model.specs.declared.shape.Shape.{Shape}
+use Rattle.allocinfo.specs.declared.rows.Row.{Row}
+use Rattle.profile_top.specs.Printed.{Setting, total_moved, rows_below}
+use Rattle.profile_top.specs.Schedule.{Played, Shows}
 
 kind_here : (kind : Kind) (t : ℕ) → kind_at (word_place kind t) ≡ kind
 kind_here Bytes t = let even : (2 * t + 0) % 2 ≡ 0 = omega arith in rw even refl
@@ -41,3 +44,16 @@ sum_here tags moves kind t h (c ∷ cpus) =
 pub total_here : (cpus tags : ℕ) (moves : List Move) (kind : Kind) (t : ℕ) → t < tags → total_of (words_moved cpus tags moves) kind t ≡ total_moved cpus moves kind t
 unfolding words_moved
 total_here cpus tags moves kind t h = ap wrap (sum_here tags moves kind t h (range_with_len 0 cpus))
+
+-- one row more
+pub rows_more : (s : Setting) (now : CoreState) (text : List ℕ) (p : Played) (rows : List Row) (i bytes calls : ℕ) → Shows s now text p → i < now.shape.tags → rows ≡ rows_below s p.moves i
+    → bytes ≡ total_of now.words Bytes i → calls ≡ total_of now.words Calls i
+    → rows ++ record { bytes = bytes; calls = calls; section = 0; index = i; kept = false } ∷ [] ≡ rows_below s p.moves (i + 1)
+rows_more s now text p rows i bytes calls shows below so_far b k =
+    let tags : now.shape ≡ s.shape = ap (λ (c : CoreState). c.shape) shows.core in
+    let within : i < s.shape.tags = subst (λ (x : Shape). i < x.tags) tags below in
+    let words : now.words ≡ words_moved s.shape.cpus s.shape.tags p.moves = ap (λ (c : CoreState). c.words) shows.core in
+    let bytes_is : bytes ≡ total_moved s.shape.cpus p.moves Bytes i = b ∙ ap (λ (w : List (List ℕ)). total_of w Bytes i) words ∙ total_here s.shape.cpus s.shape.tags p.moves Bytes i within in
+    let calls_is : calls ≡ total_moved s.shape.cpus p.moves Calls i = k ∙ ap (λ (w : List (List ℕ)). total_of w Calls i) words ∙ total_here s.shape.cpus s.shape.tags p.moves Calls i within in
+    rw (so_far, bytes_is, calls_is)
+    (sym (map-range_with_len_more (λ tag. record { bytes = total_moved s.shape.cpus p.moves Bytes tag; calls = total_moved s.shape.cpus p.moves Calls tag; section = 0; index = tag; kept = false }) 0 i i (omega arith)))

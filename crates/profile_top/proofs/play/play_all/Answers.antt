@@ -13,9 +13,9 @@ loop-actor-preserved c = λ s text p shows.
 pub returns-in-Err : goal.returns-in-Err
 returns-in-Err c = λ s text p shows.
     let g = c.loop-actor.invariant s text p shows in
-    goes_err s c.args.actor c.loop-actor.core c.play_step.new.core text (steps_left c.loop-actor.core c.args.actor) (asked c.args.actor None p) p _ _ c.in-Err.error
+    goes_err s c.args.actor c.loop-actor.core c.play_step.new.core text (steps_left c.loop-actor.core c.args.actor) (asked c.args.actor None p) p (Unit {0}) (Unit {0}) c.in-Err.error
     (some_left (steps_left c.loop-actor.core c.args.actor) c.idle.result c.idle.ensures.left c.loop-actor-test.true) g (c.in-Err.ensures.meaning s text g.played g.shows)
 
 pub returns : goal.returns
 returns c = λ s text p shows.
-    goes_end s c.args.actor c.loop-actor.core text (steps_left c.loop-actor.core c.args.actor) (asked c.args.actor None p) p _ _ (c.idle.ensures.left.0 c.loop-actor-test.false) (c.loop-actor.invariant s text p shows)
+    goes_end s c.args.actor c.loop-actor.core text (steps_left c.loop-actor.core c.args.actor) (asked c.args.actor None p) p (Unit {0}) tt (c.idle.ensures.left.0 c.loop-actor-test.false) (c.loop-actor.invariant s text p shows)

@@ -14,7 +14,7 @@ loop-step-preserved c = λ s text p shows.
 pub returns-in-Err : goal.returns-in-Err
 returns-in-Err c = λ s text p shows.
     let g = c.loop-step.invariant s text p shows in
-    goes_err s c.args.actor c.loop-step.core c.play_step.new.core text (c.args.count - c.loop-step._step) c.args.count p _ _ c.in-Err.error (omega arith) g (c.in-Err.ensures.meaning s text g.played g.shows)
+    goes_err s c.args.actor c.loop-step.core c.play_step.new.core text (c.args.count - c.loop-step._step) c.args.count p (Unit {0}) (Unit {0}) c.in-Err.error (omega arith) g (c.in-Err.ensures.meaning s text g.played g.shows)
 
 pub returns : goal.returns
-returns c = λ s text p shows. goes_end s c.args.actor c.loop-step.core text (c.args.count - c.loop-step._step) c.args.count p _ _ (omega arith) (c.loop-step.invariant s text p shows)
+returns c = λ s text p shows. goes_end s c.args.actor c.loop-step.core text (c.args.count - c.loop-step._step) c.args.count p (Unit {0}) tt (omega arith) (c.loop-step.invariant s text p shows)
