@@ -232,6 +232,13 @@ impl Core {
         )
     }
 
+    /// How many CPUs there are.
+    pub fn cpus(&self) -> u32
+        ensures { result ≡ self.now.shape.cpus }
+    {
+        self.shape.cpus
+    }
+
     /// Whether the actor has nothing queued or under way.
     pub fn idle(&self, actor: Actor) -> bool
         ensures empty { IsTrue result ↔ (ops_of self.now actor ≡ []) }

@@ -8,7 +8,7 @@ use Rattle.trace.specs.Judging.{◌>>=◌}
 use Rattle.profile_top.specs.declared.act.ActError.{ActError}
 use Rattle.profile_top.specs.declared.act.ActError.TheVariants as error
 use Rattle.profile_top.specs.Printed.{Setting}
-use Rattle.profile_top.specs.Schedule.{Played, Shows, Follows, one_step, steps_taken, steps_on}
+use Rattle.profile_top.specs.Schedule.{Played, Shows, Follows, SameSizes, one_step, steps_taken, steps_on}
 
 bind_ok : (r : Result Played Code) → (r >>= (λ p. Ok p)) ≡ r
 bind_ok (Ok p) = refl
@@ -56,3 +56,9 @@ goes_end s (actor.Cpu cpu) now text left n start X x e g = rw (g.rest ∙ ap (λ
 pub some_left : (left : ℕ) (idle : Bool) → (IsTrue idle ↔ (left ≡ 0)) → idle ≡ false → 0 < left
 some_left zero idle told h = let yes : idle ≡ true = told.1 refl in cc
 some_left (suc n) idle told h = omega arith
+
+pub same_sizes : (c : CoreState) → SameSizes c c
+same_sizes c = record { shape = refl; kernel_len = refl }
+
+pub sizes_kept : (a b c : CoreState) → SameSizes a b → SameSizes b c → SameSizes a c
+sizes_kept a b c h g = record { shape = g.shape ∙ h.shape; kernel_len = g.kernel_len ∙ h.kernel_len }

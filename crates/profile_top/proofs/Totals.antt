@@ -1,8 +1,9 @@
 -- A core's totals and words, where its words are the sums of moves.
-use Rattle.std.proofs.Common.{◌≡◌, ℕ, zero, suc, ◌+◌, ◌-◌, ◌*◌, ◌/◌, ◌%◌, ◌<◌, ◌≤◌, List, [], ◌∷◌, ◌++◌, length, get_or, map, refl, sym, ap, ◌∙◌, subst, arith, sum_by, Bool, true, false}
+use Rattle.std.proofs.Common.{◌≡◌, ℕ, zero, suc, ◌+◌, ◌-◌, ◌*◌, ◌/◌, ◌%◌, ◌<◌, ◌≤◌, List, [], ◌∷◌, ◌++◌, length, get_or, map, refl, sym, ap, ◌∙◌, subst, arith, sum_by, Bool, true, false, append_assoc, append-nil, add-zero, add-one, zero-add}
 use Rattle.std.proofs.lemmas.Bool.Decides.{nat_tests}
 use Rattle.std.proofs.lemmas.List.FromFn.{length-map-range_with_len, get_or-map-range_with_len, map-range_with_len_more}
 use Rattle.std.proofs.lemmas.List.Sums.{sum_by-cons}
+use Rattle.std.proofs.lemmas.Grind.{flat_map-append}
 use Rattle.std.specs.List.{range_with_len}
 use Rattle.tag_model.specs.declared.state.Kind.{Kind}
 use Rattle.tag_model.specs.declared.state.Kind.TheVariants.{Bytes, Calls}
@@ -13,7 +14,7 @@ use Rattle.core_steps.specs.CoreState.{CoreState, total_of}
 use Rattle.core_steps.specs.Moved.{kind_at, own_moved, words_moved}
 use Rattle.tag_model.specs.declared.shape.Shape.{Shape}
 use Rattle.allocinfo.specs.declared.rows.Row.{Row}
-use Rattle.profile_top.specs.Printed.{Setting, total_moved, rows_below}
+use Rattle.profile_top.specs.Printed.{Setting, total_moved, rows_below, words_text, cpu_text, cpu_line}
 use Rattle.profile_top.specs.Schedule.{Played, Shows}
 
 kind_here : (kind : Kind) (t : ℕ) → kind_at (word_place kind t) ≡ kind
@@ -57,3 +58,35 @@ rows_more s now text p rows i bytes calls shows below so_far b k =
     let calls_is : calls ≡ total_moved s.shape.cpus p.moves Calls i = k ∙ ap (λ (w : List (List ℕ)). total_of w Calls i) words ∙ total_here s.shape.cpus s.shape.tags p.moves Calls i within in
     rw (so_far, bytes_is, calls_is)
     (sym (map-range_with_len_more (λ tag. record { bytes = total_moved s.shape.cpus p.moves Bytes tag; calls = total_moved s.shape.cpus p.moves Calls tag; section = 0; index = tag; kept = false }) 0 i i (omega arith)))
+
+own_shown : (s : Setting) (now : CoreState) (text : List ℕ) (p : Played) (cpu : ℕ) → Shows s now text p → cpu < now.shape.cpus → get_or now.words cpu [] ≡ own_moved s.shape.tags p.moves cpu
+unfolding words_moved
+own_shown s now text p cpu shows below =
+    let shape : now.shape ≡ s.shape = ap (λ (c : CoreState). c.shape) shows.core in
+    let words : now.words ≡ words_moved s.shape.cpus s.shape.tags p.moves = ap (λ (c : CoreState). c.words) shows.core in
+    rw words (get_or-map-range_with_len (own_moved s.shape.tags p.moves) 0 s.shape.cpus cpu cpu [] (subst (λ (x : Shape). cpu < x.cpus) shape below) (omega arith))
+
+range_more : (a n : ℕ) → range_with_len a (suc n) ≡ range_with_len a n ++ (a + n) ∷ []
+range_more a zero = rw add-zero refl
+range_more a (suc n) = let place : a + 1 + n ≡ a + suc n = omega arith in ap (λ (xs : List ℕ). a ∷ xs) (range_more (a + 1) n ∙ ap (λ (k : ℕ). range_with_len (a + 1) n ++ k ∷ []) place)
+
+words_line_more : (n : ℕ) (moves : List Move) (t : ℕ) → words_text (n + 1) moves t ≡ words_text n moves t ++ cpu_line moves t n
+words_line_more n moves t =
+    let more : range_with_len 0 (n + 1) ≡ range_with_len 0 n ++ n ∷ [] = rw add-one (range_more 0 n ∙ ap (λ (k : ℕ). range_with_len 0 n ++ k ∷ []) (zero-add n)) in
+    rw more (flat_map-append (cpu_line moves t) (range_with_len 0 n) (n ∷ []) ∙ ap (λ (x : List ℕ). words_text n moves t ++ x) (append-nil (cpu_line moves t n)))
+
+-- one CPU's line more
+pub cpus_more : (s : Setting) (now : CoreState) (text : List ℕ) (p : Played) (so_far next : List ℕ) (cpu tag bytes calls : ℕ) → Shows s now text p → cpu < now.shape.cpus → tag < now.shape.tags
+    → so_far ≡ text ++ words_text cpu p.moves tag
+    → bytes ≡ get_or (get_or now.words cpu []) (word_place Bytes tag) 0 → calls ≡ get_or (get_or now.words cpu []) (word_place Calls tag) 0
+    → next ≡ so_far ++ cpu_text cpu bytes calls → next ≡ text ++ words_text (cpu + 1) p.moves tag
+cpus_more s now text p so_far next cpu tag bytes calls shows below small before b k e =
+    let shape : now.shape ≡ s.shape = ap (λ (c : CoreState). c.shape) shows.core in
+    let within : tag < s.shape.tags = subst (λ (x : Shape). tag < x.tags) shape small in
+    let own = own_shown s now text p cpu shows below in
+    let bytes_is : bytes ≡ moved_word p.moves cpu Bytes tag = b ∙ ap (λ (w : List ℕ). get_or w (word_place Bytes tag) 0) own ∙ word_here s.shape.tags p.moves cpu Bytes tag within in
+    let calls_is : calls ≡ moved_word p.moves cpu Calls tag = k ∙ ap (λ (w : List ℕ). get_or w (word_place Calls tag) 0) own ∙ word_here s.shape.tags p.moves cpu Calls tag within in
+    e ∙ ap (λ (t : List ℕ). t ++ cpu_text cpu bytes calls) before
+    ∙ append_assoc text (words_text cpu p.moves tag) (cpu_text cpu bytes calls)
+    ∙ ap (λ (t : List ℕ). text ++ (words_text cpu p.moves tag ++ t)) (ap (λ (n : ℕ). cpu_text cpu n calls) bytes_is ∙ ap (cpu_text cpu (moved_word p.moves cpu Bytes tag)) calls_is)
+    ∙ ap (λ (t : List ℕ). text ++ t) (sym (words_line_more cpu p.moves tag))

@@ -1,5 +1,5 @@
 -- What a schedule prints of the moves so far.
-use Rattle.std.specs.Prelude.{false, ℕ, List, [], ◌∷◌, ◌++◌, length, map, sum_by, codes, decimal}
+use Rattle.std.specs.Prelude.{◌≡◌, ◌<◌, false, ℕ, List, [], ◌∷◌, ◌++◌, length, map, sum_by, codes, decimal}
 use Rattle.std.specs.List.{range_with_len, flat_map}
 use Rattle.tag_model.specs.declared.shape.Shape.{Shape}
 use Rattle.tag_model.specs.declared.state.Kind.{Kind}
@@ -20,8 +20,11 @@ abbrev pub kernel_len : Setting → ℕ
 kernel_len s = length (section_at s.sections 0).tags
 
 -- `cpu C bytes B calls K`
+unfoldable pub cpu_text : ℕ → ℕ → ℕ → List ℕ
+cpu_text cpu bytes calls = codes "cpu " ++ decimal cpu ++ codes " bytes " ++ decimal bytes ++ codes " calls " ++ decimal calls ++ codes "\n"
+
 abbrev pub cpu_line : List Move → ℕ → ℕ → List ℕ
-cpu_line moves tag cpu = codes "cpu " ++ decimal cpu ++ codes " bytes " ++ decimal (moved_word moves cpu Bytes tag) ++ codes " calls " ++ decimal (moved_word moves cpu Calls tag) ++ 10 ∷ []
+cpu_line moves tag cpu = cpu_text cpu (moved_word moves cpu Bytes tag) (moved_word moves cpu Calls tag)
 
 -- each CPU's words of a tag
 abbrev pub words_text : ℕ → List Move → ℕ → List ℕ
@@ -34,6 +37,12 @@ total_moved cpus moves kind tag = wrap (sum_by (λ cpu. moved_word moves cpu kin
 -- the rows of the kernel's first tags: for each the sums of its words
 abbrev pub rows_below : Setting → List Move → ℕ → List Row
 rows_below s moves n = map (λ tag. record { bytes = total_moved s.shape.cpus moves Bytes tag; calls = total_moved s.shape.cpus moves Calls tag; section = 0; index = tag; kept = false }) (range_with_len 0 n)
+
+-- a row of one of the kernel's first tags
+pub record IsKernelRow (count : ℕ) (row : Row) : Type 0 where
+  pub of_kernel : row.section ≡ 0
+  pub below : row.index < count
+  pub loaded : row.kept ≡ false
 
 -- the kernel's rows
 abbrev pub kernel_rows : Setting → List Move → List Row

@@ -1,24 +1,29 @@
 -- What a schedule means: a fold over its lines that keeps the machine, the moves of all steps so far and the text so far. It has no words: a word is the sum of the moves on it.
-use Rattle.std.specs.Prelude.{◌≡◌, ℕ, zero, suc, ◌+◌, ◌<◌, ◌≤◌, ◌==◌, nat_lt, Bool, Option, Some, None, Result, Ok, Err, List, [], ◌∷◌, ◌++◌, length, map, sum_by, slice_set, if◌then◌else◌, codes, decimal, ⊤}
+use Rattle.tag_section.specs.Section.{Section}
+use Rattle.std.specs.Prelude.{IfSome, ◌≡◌, ℕ, zero, suc, ◌+◌, ◌<◌, ◌≤◌, ◌==◌, nat_lt, Bool, Option, Some, None, Result, Ok, Err, List, [], ◌∷◌, ◌++◌, length, map, sum_by, slice_set, if◌then◌else◌, codes, decimal, ⊤}
 use Rattle.std.specs.List.{range_with_len, flat_map}
 use Rattle.tag_model.specs.declared.shape.Shape.{Shape}
 use Rattle.tag_model.specs.declared.state.Kind.{Kind}
 use Rattle.tag_model.specs.declared.state.Kind.TheVariants.{Bytes, Calls}
 use Rattle.tag_model.specs.Wrap.{wrap}
 use Rattle.tag_model.specs.Moves.{Move, moved_word}
-use Rattle.tag_section.specs.Section.{Section, section_at}
+use Rattle.tag_section.specs.Section.{section_at}
 use Rattle.core_steps.specs.declared.op.StepRefused.{StepRefused}
 use Rattle.core_steps.specs.declared.op.Actor.{Actor}
 use Rattle.core_steps.specs.declared.op.Actor.TheVariants as actor
 use Rattle.core_steps.specs.declared.op.Op.{Op}
 use Rattle.core_steps.specs.declared.op.TheConstants.{MAX_QUEUED}
 use Rattle.core_steps.specs.Machine.{Machine, waiting_at, refusal_of, after_step, moves_of_step}
-use Rattle.core_steps.specs.CoreState.{CoreState, with_op, IsOp}
+use Rattle.core_steps.specs.CoreState.{CoreState, with_op, IsOp, fresh_machine}
 use Rattle.core_steps.specs.Moved.{core_of}
 use Rattle.core_steps.specs.StepsLeft.{cpu_steps_left}
 use Rattle.trace.specs.declared.code.Code.{Code}
 use Rattle.trace.specs.declared.code.Code.TheVariants as code
 use Rattle.trace.specs.declared.steps.StepLine.{StepLine}
+use Rattle.trace.specs.declared.steps.Steps.{Steps}
+use Rattle.trace.specs.declared.code.TextError.{TextError}
+use Rattle.trace.specs.declared.code.TextError.TheVariants as text
+use Rattle.tag_model.specs.declared.limits.TheConstants.{KERNEL_TAGS}
 use Rattle.trace.specs.Judging.{◌>>=◌, at}
 use Rattle.profile_top.specs.Acts.{act_of, code_of}
 use Rattle.profile_top.specs.declared.act.ActError.{ActError}
@@ -100,6 +105,23 @@ abbrev pub play : Setting → List StepLine → Played → Result Played (ℕ ×
 play s [] p = Ok p
 play s (line ∷ lines) p = at line.line (asks s (act_of line.act) p) then (play s lines)
 
+-- ---- a whole schedule
+
+-- one CPU and 128 kernel tags at least; frames and vectors aren't used
+abbrev pub shape_of : Steps → Shape
+shape_of steps = record { cpus = steps.cpus; tags = KERNEL_TAGS + steps.area; kernel_tags = KERNEL_TAGS; frames = 0; vectors = 0 }
+
+abbrev pub setting : Shape → List Section → Setting
+setting shape sections = record { shape = shape; sections = sections }
+
+-- before the first line
+abbrev pub nothing_played : ℕ → Played
+nothing_played cpus = record { machine = fresh_machine cpus; moves = []; text = [] }
+
+-- what a schedule's lines come to
+abbrev pub schedule_of : Steps → Result Played (ℕ × Code)
+schedule_of steps = play (setting (shape_of steps) steps.sections) steps.body (nothing_played steps.cpus)
+
 -- ---- a core that plays
 
 -- the core and the text are those of what was played
@@ -114,12 +136,27 @@ Follows s (Ok x) core text (Err why) = ⊥
 Follows s (Err (error.Refused why)) core text meant = meant ≡ Err why
 Follows s (Err (error.Memory want)) core text meant = ⊤
 
+-- the sizes stay
+pub record SameSizes (old new : CoreState) : Type 0 where
+  pub shape : new.shape ≡ old.shape
+  pub kernel_len : new.kernel_len ≡ old.kernel_len
+
 -- what a line needs of the core
 abbrev pub IsAct : Setting → Act → Type 0
 IsAct s (act.Do (actor.Cpu cpu) op) = (cpu < s.shape.cpus) × IsOp (kernel_len s) op
 IsAct s (act.Go (actor.Cpu cpu) count) = ⊤
 IsAct s act.Print = ⊤
 IsAct s (act.Words section index) = index < kernel_len s
+
+-- A call left what the meaning of lines says, unless memory ran out.
+abbrev pub Plays : Setting → Result ⊤ TextError → CoreState → List ℕ → Result Played (ℕ × Code) → Type 0
+Plays s (Ok done) core text (Ok p) = Shows s core text p
+Plays s (Ok done) core text (Err why) = ⊥
+Plays s (Err (text.Refused line code)) core written meant = meant ≡ Err (line, code)
+Plays s (Err (text.Memory want)) core written meant = ⊤
+
+abbrev pub IsLine : Setting → StepLine → Type 0
+IsLine s line = IfSome (act_of line.act) (IsAct s)
 
 -- the kernel's section fits the shape
 pub record IsSetting (s : Setting) : Type 0 where
