@@ -3,6 +3,7 @@ pub mod Bounds
 pub mod CpuFits
 pub mod CpuRows
 pub mod Found
+pub mod Ids
 pub mod Lists
 pub mod Live
 pub mod Moved
