@@ -8,6 +8,7 @@ pub mod Lists
 pub mod Live
 pub mod Moved
 pub mod Parts
+pub mod Passes
 pub mod PlaceRow
 pub mod Swept
 pub mod Words
