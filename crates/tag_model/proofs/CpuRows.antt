@@ -15,7 +15,7 @@ use Rattle.tag_model.specs.Reference.{amount, hand_counts, hand_counts_of, hand_
 use Rattle.tag_model.specs.Shape.{IsChecked}
 use Rattle.tag_model.specs.StepRules.{BeginsAllocation, AddsCall, AddsBytes, SubtractsBytes, SubtractsCall, without_call, Becomes, raised, lowered, may_begin}
 use Rattle.tag_model.specs.WordState.{one_if, Every, word_place, counted, counted_of, part_fits, cpu_fits, hand_may_open}
-use Rattle.tag_model.proofs.Alike.{Alike, alike_after, alike_cpu, each_alike, cover_alike}
+use Rattle.tag_model.proofs.Alike.{Alike, alike_after, alike_book, alike_cpu, each_alike, cover_alike}
 use Rattle.tag_model.proofs.CpuFits.{HandFits, hand_fits_means, hand_fits_from, CpuFits, cpu_fits_means, cpu_fits_from, hand_names, counts_here, counts_elsewhere, hand_covered, opening_live}
 use Rattle.tag_model.proofs.Found.{fails_none}
 use Rattle.tag_model.proofs.Lists.{dead_at}
@@ -45,9 +45,9 @@ safe_rise k kind t n c hand ps qs r b safe fit named not_read not_cleared =
     let alike = alike_after (Cpu c ∷ []) (Cpu d ∷ []) ps qs (alike_cpu c (raised kind t n c.words) hand) b in
     record {
       fits = every_after (part_fits k) (Cpu c ∷ []) (Cpu d ∷ []) ps qs b (omega (arith, fails_none (part_fits k (Cpu d)) (cpu_fits_from k d fit))) safe.fits;
-      each = each_alike k ps qs alike safe.each;
+      each = each_alike k ps qs (alike_book ps qs alike) safe.each;
       sums = sums_rise kind t n c hand ps qs r b safe.sums;
-      cover = cover_alike k ps qs alike safe.cover (named_after k c d ps qs b safe named);
+      cover = cover_alike k ps qs (alike_book ps qs alike) safe.cover (named_after k c d ps qs b safe named);
       sweep = sweep_rise k kind t n c hand ps qs r b not_read not_cleared safe.sweep }
 
 safe_fall : (k : Shape) (kind : Kind) (t n : ℕ) (c : CpuPart) (hand : Option Hand) (ps qs : List Part) → Falls kind t n c hand
@@ -59,9 +59,9 @@ safe_fall k kind t n c hand ps qs r b safe fit named =
     let alike = alike_after (Cpu c ∷ []) (Cpu d ∷ []) ps qs (alike_cpu c (lowered kind t n c.words) hand) b in
     record {
       fits = every_after (part_fits k) (Cpu c ∷ []) (Cpu d ∷ []) ps qs b (omega (arith, fails_none (part_fits k (Cpu d)) (cpu_fits_from k d fit))) safe.fits;
-      each = each_alike k ps qs alike safe.each;
+      each = each_alike k ps qs (alike_book ps qs alike) safe.each;
       sums = sums_fall kind t n c hand ps qs r b safe.sums;
-      cover = cover_alike k ps qs alike safe.cover (named_after k c d ps qs b safe named);
+      cover = cover_alike k ps qs (alike_book ps qs alike) safe.cover (named_after k c d ps qs b safe named);
       sweep = sweep_fall k kind t n c hand ps qs r b safe.sweep }
 
 -- what the laws tell of a CPU of the state, and of the module list

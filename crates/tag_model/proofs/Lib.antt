@@ -4,6 +4,7 @@ pub mod CpuFits
 pub mod CpuRows
 pub mod Found
 pub mod Ids
+pub mod ListRows
 pub mod Lists
 pub mod Live
 pub mod Moved
