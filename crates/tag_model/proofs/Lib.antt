@@ -11,5 +11,6 @@ pub mod Moved
 pub mod Parts
 pub mod Passes
 pub mod PlaceRow
+pub mod ScanRow
 pub mod Swept
 pub mod Words
