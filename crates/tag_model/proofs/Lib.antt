@@ -11,6 +11,7 @@ pub mod Moved
 pub mod Parts
 pub mod Passes
 pub mod PlaceRow
+pub mod Records
 pub mod ScanRow
 pub mod Swept
 pub mod Words
