@@ -3,6 +3,7 @@ pub mod BookRows
 pub mod Bounds
 pub mod CpuFits
 pub mod CpuRows
+pub mod DeadRow
 pub mod Found
 pub mod Ids
 pub mod ListRows
