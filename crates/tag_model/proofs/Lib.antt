@@ -9,6 +9,7 @@ pub mod Ids
 pub mod ListRows
 pub mod Lists
 pub mod Live
+pub mod LoadRow
 pub mod Moved
 pub mod Parts
 pub mod Passes
