@@ -15,6 +15,7 @@ pub mod Parts
 pub mod Passes
 pub mod PlaceRow
 pub mod Records
+pub mod ReleaseRow
 pub mod ScanRow
 pub mod Swept
 pub mod Words
