@@ -1,4 +1,5 @@
 pub mod Alike
+pub mod BaseMoves
 pub mod BookRows
 pub mod Bounds
 pub mod CpuFits

@@ -76,7 +76,7 @@ counts_stay c d was next stays kind t =
 
 -- ---- write-cell
 
-settled_may_open : (o : Option Hand) (runs : List Run) → is_settled o ≡ true → hand_may_open o runs ≡ true
+pub settled_may_open : (o : Option Hand) (runs : List Run) → is_settled o ≡ true → hand_may_open o runs ≡ true
 settled_may_open None runs e = refl
 settled_may_open (Some h) runs e = rw e refl
 
