@@ -17,7 +17,6 @@ use Rattle.tag_model.specs.declared.state.Run.{Run}
 use Rattle.tag_model.specs.declared.state.Tag.{Tag}
 use Rattle.tag_model.specs.Laws.{Safe, CoverLaw, IsCovered, is_loaded_as, same_run, same_note, contradicts, runs_of_cpu}
 use Rattle.tag_model.specs.Reference.{is_settled}
-use Rattle.tag_model.specs.Shape.{IsChecked}
 use Rattle.tag_model.specs.StepRules.{GivesRun, TakesRun, NotesRecord, Becomes}
 use Rattle.tag_model.specs.WordState.{one_if, Every, word_of, word_from, counted, counted_of, in_range, records_with, runs_with, notes_with, users_of, next_id, record_fits, part_fits, hand_may_open}
 use Rattle.tag_model.proofs.Alike.{of_high, of_records}
@@ -123,8 +122,8 @@ may_open_more (Some h) run runs e =
     elim (or_cases (not h.opening || (h.tag.module == 0)) (list_any (λ (r : Run). (r.id == h.tag.module) && in_range r.start r.length h.tag.number) runs) e)
       [ inl settled ↦ or_left _ _ settled | inr ran ↦ or_right _ _ (or_right _ _ ran) ]
 
-pub safe-gives_run : (k : Shape) (old new : CpuPart) (from to : ListPart) (ps qs : List Part) → IsChecked k → GivesRun old new from to → Becomes (Cpu old ∷ Modules from ∷ []) (Cpu new ∷ Modules to ∷ []) ps qs → Safe k ps → Safe k qs
-safe-gives_run k old new from to ps qs checked row steps safe =
+pub safe-gives_run : (k : Shape) (old new : CpuPart) (from to : ListPart) (ps qs : List Part) → GivesRun old new from to → Becomes (Cpu old ∷ Modules from ∷ []) (Cpu new ∷ Modules to ∷ []) ps qs → Safe k ps → Safe k qs
+safe-gives_run k old new from to ps qs row steps safe =
     base_kept k old (row.run ∷ old.runs) old.notes from row.runs ps qs b
       (record {
         may_open = may_open_more old.hand row.run old.runs (may_open_before k old from _ ps qs steps safe);
@@ -145,8 +144,8 @@ safe-gives_run k old new from to ps qs checked row steps safe =
 
 -- ---- a run leaves a CPU
 
-pub safe-takes_run : (k : Shape) (old new : CpuPart) (from to : ListPart) (ps qs : List Part) → IsChecked k → TakesRun old new from to → Becomes (Cpu old ∷ Modules from ∷ []) (Cpu new ∷ Modules to ∷ []) ps qs → Safe k ps → Safe k qs
-safe-takes_run k old new from to ps qs checked row steps safe =
+pub safe-takes_run : (k : Shape) (old new : CpuPart) (from to : ListPart) (ps qs : List Part) → TakesRun old new from to → Becomes (Cpu old ∷ Modules from ∷ []) (Cpu new ∷ Modules to ∷ []) ps qs → Safe k ps → Safe k qs
+safe-takes_run k old new from to ps qs row steps safe =
     base_kept k old (row.front ++ row.back) old.notes from (row.run ∷ from.away) ps qs b
       (record {
         may_open = settled_may_open old.hand (row.front ++ row.back) row.settled;
@@ -177,8 +176,8 @@ note_tells n r e =
     let dead : (n.seen_dead && not r.dead) ≡ false = not-true (n.seen_dead && not r.dead) f.1 in
     (eqb-true n.id r.id a.0, and_right (r.id == n.id) (not ((r.section == n.section) && (r.start == n.start) && (r.length == n.length)) || (n.seen_dead && not r.dead)) (or_from (not ((r.section == n.section) && (r.start == n.start) && (r.length == n.length))) (n.seen_dead && not r.dead) (ap not same) dead))
 
-pub safe-notes_record : (k : Shape) (old new : CpuPart) (list : ListPart) (ps qs : List Part) → IsChecked k → NotesRecord old new list → Becomes (Cpu old ∷ Modules list ∷ []) (Cpu new ∷ Modules list ∷ []) ps qs → Safe k ps → Safe k qs
-safe-notes_record k old new list ps qs checked row steps safe =
+pub safe-notes_record : (k : Shape) (old new : CpuPart) (list : ListPart) (ps qs : List Part) → NotesRecord old new list → Becomes (Cpu old ∷ Modules list ∷ []) (Cpu new ∷ Modules list ∷ []) ps qs → Safe k ps → Safe k qs
+safe-notes_record k old new list ps qs row steps safe =
     base_kept k old old.runs (note_of row.entry ∷ old.notes) list list.away ps qs b
       (record {
         may_open = may_open_before k old list _ ps qs steps safe;

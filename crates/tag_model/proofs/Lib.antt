@@ -18,5 +18,6 @@ pub mod PlaceRow
 pub mod Records
 pub mod ReleaseRow
 pub mod ScanRow
+pub mod Steps
 pub mod Swept
 pub mod Words

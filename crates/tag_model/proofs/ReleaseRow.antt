@@ -232,3 +232,23 @@ safe-releases k left id old new ps qs checked row steps safe =
         users other (inr ne) =
             omega (arith, safe.cover.users other, same (runs_with (λ r. r.id == other)) refl,
               same (users_of other) (sum_others_same (λ (r : Record). if r.id == other then r.users else 0) id old.records (λ r is. ap (λ x. cond {A = ℕ} x r.users 0) (ne_eqb r.id other (λ e. ne (sym is ∙ e))))))
+
+-- ---- the theorem of a release
+
+pub release_is_dead : (k : Shape) (left : List ℕ) (id : ℕ) (old new : ListPart) (ps qs : List Part) → Releases left id old new → Becomes (Modules old ∷ []) (Modules new ∷ []) ps qs → Safe k ps → list_any (λ (r : Record). (r.id == id) && r.dead) old.records ≡ true
+release_is_dead k left id old new ps qs row steps safe =
+    let s = list_step k old new ps qs steps safe in
+    let fits = subst (λ x. sweep_fits k x old.records ≡ true) row.done s.sweep.fits in
+    listed_is_dead left old.records id (and_parts (rises_from 0 left) (are_dead left old.records) fits).1 row.listed
+
+pub release_of_module : (k : Shape) (left : List ℕ) (id : ℕ) (old new : ListPart) (ps qs : List Part) → Releases left id old new → Becomes (Modules old ∷ []) (Modules new ∷ []) ps qs → Safe k ps
+    → (tag : Tag) → tag.module ≡ id → sum_by (counted_of Calls tag) ps ≡ 0
+release_of_module k left id old new ps qs row steps safe tag is =
+    let s = list_step k old new ps qs steps safe in
+    done_module k left id old ps s.before s.laws safe.cover s.sweep row.done row.listed tag is
+
+pub release_in_range : (k : Shape) (left : List ℕ) (id : ℕ) (old new : ListPart) (ps qs : List Part) → Releases left id old new → Becomes (Modules old ∷ []) (Modules new ∷ []) ps qs → Safe k ps
+    → (kind : Kind) (t : ℕ) → 0 < count_by (λ (r : Record). (r.id == id) && in_range r.start r.length t) old.records → sum_by (counted kind t) ps ≡ 0
+release_in_range k left id old new ps qs row steps safe kind t there =
+    let s = list_step k old new ps qs steps safe in
+    done_range k left id old ps s.sweep row.done row.listed kind t there
