@@ -31,6 +31,21 @@ pub record Alike (ps qs : List Part) : Type 0 where
   pub one_run : (id : ℕ) → sum_by (λ p. one_if (not (nat_le (runs_of_cpu id p) 1))) ps ≡ sum_by (λ p. one_if (not (nat_le (runs_of_cpu id p) 1))) qs
   pub list : (f : Part → ℕ) → IsOfList f → sum_by f ps ≡ sum_by f qs
 
+-- the same of all but the sweep
+pub record AlikeBook (ps qs : List Part) : Type 0 where
+  pub cpus : (n : ℕ) → sum_by (is_cpu n) ps ≡ sum_by (is_cpu n) qs
+  pub pass : sum_by is_pass ps ≡ sum_by is_pass qs
+  pub places : (n : ℕ) → sum_by (is_place_at n) ps ≡ sum_by (is_place_at n) qs
+  pub few_places : sum_by is_place ps ≡ sum_by is_place qs
+  pub runs : (test : Run → Bool) → sum_by (runs_with test) ps ≡ sum_by (runs_with test) qs
+  pub notes : (test : Note → Bool) → sum_by (notes_with test) ps ≡ sum_by (notes_with test) qs
+  pub next : sum_by next_id ps ≡ sum_by next_id qs
+  pub one_run : (id : ℕ) → sum_by (λ p. one_if (not (nat_le (runs_of_cpu id p) 1))) ps ≡ sum_by (λ p. one_if (not (nat_le (runs_of_cpu id p) 1))) qs
+  pub list : sum_by is_list ps ≡ sum_by is_list qs
+  pub records : (test : Record → Bool) → sum_by (records_with test) ps ≡ sum_by (records_with test) qs
+  pub users : (id : ℕ) → sum_by (users_of id) ps ≡ sum_by (users_of id) qs
+  pub high : (next : ℕ) → sum_by (λ p. one_if (not (records_with (λ r. not (nat_lt r.id next)) p == 0))) ps ≡ sum_by (λ p. one_if (not (records_with (λ r. not (nat_lt r.id next)) p == 0))) qs
+
 -- parts that become parts like them leave the state like it was
 pub alike_after : (v w ps qs : List Part) → Alike v w → Becomes v w ps qs → Alike ps qs
 alike_after v w ps qs a b = record {
@@ -96,34 +111,64 @@ of_cleared kind t = record { cpu = λ c. refl; place = λ n held. refl; pass = �
 pub of_fits : (k : Shape) → IsOfList (λ p. one_if (not (list_fits k p)))
 of_fits k = record { cpu = λ c. refl; place = λ n held. refl; pass = λ id. refl }
 
+pub alike_book : (ps qs : List Part) → Alike ps qs → AlikeBook ps qs
+alike_book ps qs a = record {
+  cpus = a.cpus;
+  pass = a.pass;
+  places = a.places;
+  few_places = a.few_places;
+  runs = a.runs;
+  notes = a.notes;
+  next = a.next;
+  one_run = a.one_run;
+  list = a.list is_list of_list;
+  records = λ test. a.list (records_with test) (of_records test);
+  users = λ id. a.list (users_of id) (of_users id);
+  high = λ next. a.list (λ p. one_if (not (records_with (λ r. not (nat_lt r.id next)) p == 0))) (of_high next) }
+
+pub book_after : (v w ps qs : List Part) → AlikeBook v w → Becomes v w ps qs → AlikeBook ps qs
+book_after v w ps qs a b = record {
+  cpus = λ n. sym (becomes_same (is_cpu n) v w ps qs b (a.cpus n));
+  pass = sym (becomes_same is_pass v w ps qs b a.pass);
+  places = λ n. sym (becomes_same (is_place_at n) v w ps qs b (a.places n));
+  few_places = sym (becomes_same is_place v w ps qs b a.few_places);
+  runs = λ test. sym (becomes_same (runs_with test) v w ps qs b (a.runs test));
+  notes = λ test. sym (becomes_same (notes_with test) v w ps qs b (a.notes test));
+  next = sym (becomes_same next_id v w ps qs b a.next);
+  one_run = λ id. sym (becomes_same (λ p. one_if (not (nat_le (runs_of_cpu id p) 1))) v w ps qs b (a.one_run id));
+  list = sym (becomes_same is_list v w ps qs b a.list);
+  records = λ test. sym (becomes_same (records_with test) v w ps qs b (a.records test));
+  users = λ id. sym (becomes_same (users_of id) v w ps qs b (a.users id));
+  high = λ next. sym (becomes_same (λ p. one_if (not (records_with (λ r. not (nat_lt r.id next)) p == 0))) v w ps qs b (a.high next)) }
+
 -- ---- what alike states share of the laws
 
-pub each_alike : (k : Shape) (ps qs : List Part) → Alike ps qs → OneOfEach k ps → OneOfEach k qs
+pub each_alike : (k : Shape) (ps qs : List Part) → AlikeBook ps qs → OneOfEach k ps → OneOfEach k qs
 each_alike k ps qs a e = record {
   cpus = λ n h. omega (arith, a.cpus n, e.cpus n h);
-  list = omega (arith, a.list is_list of_list, e.list);
+  list = omega (arith, a.list, e.list);
   pass = omega (arith, a.pass, e.pass);
   places = λ n. omega (arith, a.places n, e.places n);
   few_places = omega (arith, a.few_places, e.few_places) }
 
-pub covered_alike : (k : Shape) (ps qs : List Part) → Alike ps qs → (tag : Tag) → IsCovered k ps tag → IsCovered k qs tag
+pub covered_alike : (k : Shape) (ps qs : List Part) → AlikeBook ps qs → (tag : Tag) → IsCovered k ps tag → IsCovered k qs tag
 covered_alike k ps qs a tag (inl h) = inl h
-covered_alike k ps qs a tag (inr h) = inr (omega (arith, a.list (records_with (λ r. (r.id == tag.module) && in_range r.start r.length tag.number)) (of_records _)))
+covered_alike k ps qs a tag (inr h) = inr (omega (arith, a.records (λ r. (r.id == tag.module) && in_range r.start r.length tag.number)))
 
 -- the cover law stays where each tag that is newly counted is covered
-pub cover_alike : (k : Shape) (ps qs : List Part) → Alike ps qs → CoverLaw k ps → ((tag : Tag) → 0 < sum_by (counted_of Calls tag) qs → IsCovered k ps tag) → CoverLaw k qs
+pub cover_alike : (k : Shape) (ps qs : List Part) → AlikeBook ps qs → CoverLaw k ps → ((tag : Tag) → 0 < sum_by (counted_of Calls tag) qs → IsCovered k ps tag) → CoverLaw k qs
 cover_alike k ps qs a c named = record {
   ids_below_next =
       subst (λ next. Every (λ p. (records_with (λ r. not (nat_lt r.id next)) p == 0)) qs) a.next
-        (omega (arith, c.ids_below_next, a.list (λ p. one_if (not (records_with (λ r. not (nat_lt r.id (sum_by next_id ps))) p == 0))) (of_high (sum_by next_id ps))));
-  ids_apart = λ id. omega (arith, a.list (records_with (λ r. r.id == id)) (of_records _), c.ids_apart id);
-  ranges_apart = λ t. omega (arith, a.list (records_with (λ r. in_range r.start r.length t)) (of_records _), c.ranges_apart t);
+        (omega (arith, c.ids_below_next, a.high (sum_by next_id ps)));
+  ids_apart = λ id. omega (arith, a.records (λ r. r.id == id), c.ids_apart id);
+  ranges_apart = λ t. omega (arith, a.records (λ r. in_range r.start r.length t), c.ranges_apart t);
   named = λ tag h. covered_alike k ps qs a tag (named tag h);
-  runs = λ run h. omega (arith, a.list (records_with (is_loaded_as run)) (of_records _), c.runs run (omega (arith, a.runs (same_run run))));
+  runs = λ run h. omega (arith, a.records (is_loaded_as run), c.runs run (omega (arith, a.runs (same_run run))));
   one_run = λ id. omega (arith, a.one_run id, c.one_run id);
-  users = λ id. omega (arith, a.runs (λ r. r.id == id), a.list (users_of id) (of_users id), c.users id);
+  users = λ id. omega (arith, a.runs (λ r. r.id == id), a.users id, c.users id);
   notes_known = λ n h. omega (arith, a.next, c.notes_known n (omega (arith, a.notes (same_note n))));
-  notes_agree = λ n h. omega (arith, a.list (records_with (contradicts n)) (of_records _), c.notes_agree n (omega (arith, a.notes (same_note n)))) }
+  notes_agree = λ n h. omega (arith, a.records (contradicts n), c.notes_agree n (omega (arith, a.notes (same_note n)))) }
 
 -- the sweep law stays where no word that it still reads and no count under what it has read breaks it
 pub sweep_alike : (k : Shape) (ps qs : List Part) → Alike ps qs → SweepLaw k ps

@@ -14,8 +14,8 @@ use Rattle.tag_model.specs.Laws.{Safe, IsCovered, cleared, is_reading, tag_read}
 use Rattle.tag_model.specs.Reference.{amount, hand_counts, hand_counts_of, hand_fits}
 use Rattle.tag_model.specs.Shape.{IsChecked}
 use Rattle.tag_model.specs.StepRules.{BeginsAllocation, AddsCall, AddsBytes, SubtractsBytes, SubtractsCall, without_call, Becomes, raised, lowered, may_begin}
-use Rattle.tag_model.specs.WordState.{one_if, Every, word_place, counted, counted_of, part_fits, cpu_fits, hand_may_open}
-use Rattle.tag_model.proofs.Alike.{Alike, alike_after, alike_cpu, each_alike, cover_alike}
+use Rattle.tag_model.specs.WordState.{one_if, Every, word_place, counted, counted_of, records_with, part_fits, cpu_fits, hand_may_open}
+use Rattle.tag_model.proofs.Alike.{Alike, of_records, alike_after, alike_book, alike_cpu, each_alike, cover_alike}
 use Rattle.tag_model.proofs.CpuFits.{HandFits, hand_fits_means, hand_fits_from, CpuFits, cpu_fits_means, cpu_fits_from, hand_names, counts_here, counts_elsewhere, hand_covered, opening_live}
 use Rattle.tag_model.proofs.Found.{fails_none}
 use Rattle.tag_model.proofs.Lists.{dead_at}
@@ -35,34 +35,43 @@ named_after k c d ps qs b safe hand tag h = go (cases_lt 0 (hand_counts_of Calls
     go (inl some) = hand tag some
     go (inr none) = safe.cover.named tag (omega (arith, b.before (counted_of Calls tag), b.after (counted_of Calls tag)))
 
-safe_rise : (k : Shape) (kind : Kind) (t n : ℕ) (c : CpuPart) (hand : Option Hand) (ps qs : List Part) → Rises kind t n c hand
-    → Becomes (Cpu c ∷ []) (Cpu (record c { words = raised kind t n c.words; hand = hand }) ∷ []) ps qs → Safe k ps
-    → CpuFits k (record c { words = raised kind t n c.words; hand = hand })
-    → ((tag : Tag) → 0 < hand_counts_of Calls tag hand → IsCovered k ps tag)
-    → (0 < sum_by (is_reading kind) ps → tag_read ps ≡ t → ⊥) → (0 < sum_by (cleared kind t) ps → ⊥) → Safe k qs
-safe_rise k kind t n c hand ps qs r b safe fit named not_read not_cleared =
+-- what a step that raises a word keeps to: in the range of a dead record it raises only where something is counted
+pub record RiseStep (k : Shape) (ps : List Part) (kind : Kind) (t n : ℕ) (c : CpuPart) (hand : Option Hand) : Type 0 where
+  pub rises : Rises kind t n c hand
+  pub fit : CpuFits k (record c { words = raised kind t n c.words; hand = hand })
+  pub named : (tag : Tag) → 0 < hand_counts_of Calls tag hand → IsCovered k ps tag
+  pub not_read : 0 < sum_by (is_reading kind) ps → tag_read ps ≡ t → ⊥
+  pub not_cleared : 0 < sum_by (cleared kind t) ps → ⊥
+  pub held : 0 < sum_by (records_with (dead_at t)) ps → 0 < sum_by (counted kind t) ps
+
+pub record FallStep (k : Shape) (ps : List Part) (kind : Kind) (t n : ℕ) (c : CpuPart) (hand : Option Hand) : Type 0 where
+  pub falls : Falls kind t n c hand
+  pub fit : CpuFits k (record c { words = lowered kind t n c.words; hand = hand })
+  pub named : (tag : Tag) → 0 < hand_counts_of Calls tag hand → IsCovered k ps tag
+
+safe_rise : (k : Shape) (kind : Kind) (t n : ℕ) (c : CpuPart) (hand : Option Hand) (ps qs : List Part) → RiseStep k ps kind t n c hand
+    → Becomes (Cpu c ∷ []) (Cpu (record c { words = raised kind t n c.words; hand = hand }) ∷ []) ps qs → Safe k ps → Safe k qs
+safe_rise k kind t n c hand ps qs step b safe =
     let d : CpuPart = record c { words = raised kind t n c.words; hand = hand } in
     let alike = alike_after (Cpu c ∷ []) (Cpu d ∷ []) ps qs (alike_cpu c (raised kind t n c.words) hand) b in
     record {
-      fits = every_after (part_fits k) (Cpu c ∷ []) (Cpu d ∷ []) ps qs b (omega (arith, fails_none (part_fits k (Cpu d)) (cpu_fits_from k d fit))) safe.fits;
-      each = each_alike k ps qs alike safe.each;
-      sums = sums_rise kind t n c hand ps qs r b safe.sums;
-      cover = cover_alike k ps qs alike safe.cover (named_after k c d ps qs b safe named);
-      sweep = sweep_rise k kind t n c hand ps qs r b not_read not_cleared safe.sweep }
+      fits = every_after (part_fits k) (Cpu c ∷ []) (Cpu d ∷ []) ps qs b (omega (arith, fails_none (part_fits k (Cpu d)) (cpu_fits_from k d step.fit))) safe.fits;
+      each = each_alike k ps qs (alike_book ps qs alike) safe.each;
+      sums = sums_rise kind t n c hand ps qs step.rises b safe.sums;
+      cover = cover_alike k ps qs (alike_book ps qs alike) safe.cover (named_after k c d ps qs b safe step.named);
+      sweep = sweep_rise k kind t n c hand ps qs step.rises b step.not_read step.not_cleared safe.sweep }
 
-safe_fall : (k : Shape) (kind : Kind) (t n : ℕ) (c : CpuPart) (hand : Option Hand) (ps qs : List Part) → Falls kind t n c hand
-    → Becomes (Cpu c ∷ []) (Cpu (record c { words = lowered kind t n c.words; hand = hand }) ∷ []) ps qs → Safe k ps
-    → CpuFits k (record c { words = lowered kind t n c.words; hand = hand })
-    → ((tag : Tag) → 0 < hand_counts_of Calls tag hand → IsCovered k ps tag) → Safe k qs
-safe_fall k kind t n c hand ps qs r b safe fit named =
+safe_fall : (k : Shape) (kind : Kind) (t n : ℕ) (c : CpuPart) (hand : Option Hand) (ps qs : List Part) → FallStep k ps kind t n c hand
+    → Becomes (Cpu c ∷ []) (Cpu (record c { words = lowered kind t n c.words; hand = hand }) ∷ []) ps qs → Safe k ps → Safe k qs
+safe_fall k kind t n c hand ps qs step b safe =
     let d : CpuPart = record c { words = lowered kind t n c.words; hand = hand } in
     let alike = alike_after (Cpu c ∷ []) (Cpu d ∷ []) ps qs (alike_cpu c (lowered kind t n c.words) hand) b in
     record {
-      fits = every_after (part_fits k) (Cpu c ∷ []) (Cpu d ∷ []) ps qs b (omega (arith, fails_none (part_fits k (Cpu d)) (cpu_fits_from k d fit))) safe.fits;
-      each = each_alike k ps qs alike safe.each;
-      sums = sums_fall kind t n c hand ps qs r b safe.sums;
-      cover = cover_alike k ps qs alike safe.cover (named_after k c d ps qs b safe named);
-      sweep = sweep_fall k kind t n c hand ps qs r b safe.sweep }
+      fits = every_after (part_fits k) (Cpu c ∷ []) (Cpu d ∷ []) ps qs b (omega (arith, fails_none (part_fits k (Cpu d)) (cpu_fits_from k d step.fit))) safe.fits;
+      each = each_alike k ps qs (alike_book ps qs alike) safe.each;
+      sums = sums_fall kind t n c hand ps qs step.falls b safe.sums;
+      cover = cover_alike k ps qs (alike_book ps qs alike) safe.cover (named_after k c d ps qs b safe step.named);
+      sweep = sweep_fall k kind t n c hand ps qs step.falls b safe.sweep }
 
 -- what the laws tell of a CPU of the state, and of the module list
 pub record Seen (k : Shape) (c : CpuPart) (ps : List Part) : Type 0 where
@@ -85,22 +94,27 @@ live_not_read k c ps s kind t live reads is =
 live_not_cleared : (k : Shape) (c : CpuPart) (ps : List Part) → Seen k c ps → (kind : Kind) (t : ℕ) → IsLive k ps t → 0 < sum_by (cleared kind t) ps → ⊥
 live_not_cleared k c ps s kind t live h = live_not_dead k ps s.list s.laws t live (cleared_is_dead k ps s.list s.laws kind t h)
 
+live_not_dead_sum : (k : Shape) (c : CpuPart) (ps : List Part) → Seen k c ps → (t : ℕ) → IsLive k ps t → 0 < sum_by (records_with (dead_at t)) ps → ⊥
+live_not_dead_sum k c ps s t live h = live_not_dead k ps s.list s.laws t live (omega (arith, s.list.only (records_with (dead_at t)) (of_records (dead_at t))))
+
 cond_zero : (b : Bool) → cond {A = ℕ} b 0 0 ≡ 0
 cond_zero true = refl
 cond_zero false = refl
 
 -- ---- add-call: an allocation begins
 
-pub safe-begins_allocation : (k : Shape) (tag : Tag) (c d : CpuPart) (ps qs : List Part) → IsChecked k → BeginsAllocation k tag c d → Becomes (Cpu c ∷ []) (Cpu d ∷ []) ps qs → Safe k ps → Safe k qs
-safe-begins_allocation k tag c d ps qs ok row b safe =
-    safe_rise k Calls tag.number 1 c (Some hand) ps qs rises (subst (λ x. Becomes (Cpu c ∷ []) (Cpu x ∷ []) ps qs) row.after b) safe fit
-      (λ other h. subst (λ x. IsCovered k ps x) (hand_names other hand h) live.1)
-      (live_not_read k c ps s Calls tag.number live.0) (live_not_cleared k c ps s Calls tag.number live.0)
+pub rise-begins_allocation : (k : Shape) (tag : Tag) (c d : CpuPart) (ps : List Part) → IsChecked k → BeginsAllocation k tag c d → Seen k c ps → Safe k ps
+    → RiseStep k ps Calls tag.number 1 c (Some (record { tag = tag; bytes = 0; calls = 1; opening = true }))
+rise-begins_allocation k tag c d ps ok row s safe = record {
+    rises = rises;
+    fit = fit;
+    named = λ other h. subst (λ x. IsCovered k ps x) (hand_names other hand h) live.1;
+    not_read = live_not_read k c ps s Calls tag.number live.0;
+    not_cleared = live_not_cleared k c ps s Calls tag.number live.0;
+    held = λ dead. absurd (live_not_dead_sum k c ps s tag.number live.0 dead) }
   where
     hand : Hand
     hand = record { tag = tag; bytes = 0; calls = 1; opening = true }
-    s : Seen k c ps
-    s = seen k c [] (Cpu d ∷ []) ps qs b safe
     live : IsLive k ps tag.number × IsCovered k ps tag
     live = begins_live k c ps tag s.stands safe.cover row.allowed
     elsewhere : (other : Kind) (u : ℕ) → word_place other u ≢ word_place Calls tag.number → hand_counts other u (Some hand) ≡ hand_counts other u c.hand
@@ -115,18 +129,23 @@ safe-begins_allocation k tag c d ps qs ok row b safe =
         may_open true e h = rw e refl
         may_open false e h = rw e (rw e at h)
 
+pub safe-begins_allocation : (k : Shape) (tag : Tag) (c d : CpuPart) (ps qs : List Part) → IsChecked k → BeginsAllocation k tag c d → Becomes (Cpu c ∷ []) (Cpu d ∷ []) ps qs → Safe k ps → Safe k qs
+safe-begins_allocation k tag c d ps qs ok row b safe =
+    safe_rise k Calls tag.number 1 c _ ps qs (rise-begins_allocation k tag c d ps ok row (seen k c [] (Cpu d ∷ []) ps qs b safe) safe) (subst (λ x. Becomes (Cpu c ∷ []) (Cpu x ∷ []) ps qs) row.after b) safe
+
 -- ---- add-bytes
 
-pub safe-adds_bytes : (k : Shape) (size : ℕ) (h : Hand) (c d : CpuPart) (ps qs : List Part) → IsChecked k → AddsBytes size h c d → Becomes (Cpu c ∷ []) (Cpu d ∷ []) ps qs → Safe k ps → Safe k qs
-safe-adds_bytes k size h c d ps qs ok row b safe =
-    safe_rise k Bytes h.tag.number size c (Some hand) ps qs rises (subst (λ x. Becomes (Cpu c ∷ []) (Cpu x ∷ []) ps qs) row.after b) safe fit
-      (λ other e. subst (λ x. IsCovered k ps x) (hand_names other hand e) covered)
-      (live_not_read k c ps s Bytes h.tag.number live) (live_not_cleared k c ps s Bytes h.tag.number live)
+pub rise-adds_bytes : (k : Shape) (size : ℕ) (h : Hand) (c d : CpuPart) (ps : List Part) → IsChecked k → AddsBytes size h c d → Seen k c ps → Safe k ps → RiseStep k ps Bytes h.tag.number size c (Some (record h { bytes = size }))
+rise-adds_bytes k size h c d ps ok row s safe = record {
+    rises = rises;
+    fit = fit;
+    named = λ other e. subst (λ x. IsCovered k ps x) (hand_names other hand e) covered;
+    not_read = live_not_read k c ps s Bytes h.tag.number live;
+    not_cleared = live_not_cleared k c ps s Bytes h.tag.number live;
+    held = λ dead. absurd (live_not_dead_sum k c ps s h.tag.number live dead) }
   where
     hand : Hand
     hand = record h { bytes = size }
-    s : Seen k c ps
-    s = seen k c [] (Cpu d ∷ []) ps qs b safe
     covered : IsCovered k ps h.tag
     covered = hand_covered k c h ps s.stands safe.fits safe.cover row.held
     live : IsLive k ps h.tag.number
@@ -145,22 +164,26 @@ safe-adds_bytes k size h c d ps qs ok row b safe =
       hand = hand_fits_from hand (record { bytes = row.fits; some = was.some; calls = was.calls; opening = was.opening });
       may_open = subst (λ o. hand_may_open o c.runs ≡ true) row.held s.fit.may_open }
 
+pub safe-adds_bytes : (k : Shape) (size : ℕ) (h : Hand) (c d : CpuPart) (ps qs : List Part) → IsChecked k → AddsBytes size h c d → Becomes (Cpu c ∷ []) (Cpu d ∷ []) ps qs → Safe k ps → Safe k qs
+safe-adds_bytes k size h c d ps qs ok row b safe =
+    safe_rise k Bytes h.tag.number size c _ ps qs (rise-adds_bytes k size h c d ps ok row (seen k c [] (Cpu d ∷ []) ps qs b safe) safe) (subst (λ x. Becomes (Cpu c ∷ []) (Cpu x ∷ []) ps qs) row.after b) safe
+
 -- ---- add-call: a split counts a call
 
-pub safe-adds_call : (k : Shape) (h : Hand) (c d : CpuPart) (ps qs : List Part) → IsChecked k → AddsCall h c d → Becomes (Cpu c ∷ []) (Cpu d ∷ []) ps qs → Safe k ps → Safe k qs
-safe-adds_call k h c d ps qs ok row b safe =
-    safe_rise k Calls h.tag.number 1 c (Some hand) ps qs rises (subst (λ x. Becomes (Cpu c ∷ []) (Cpu x ∷ []) ps qs) row.after b) safe fit
-      (λ other e. subst (λ x. IsCovered k ps x) (hand_names other hand e) covered)
-      (λ reads is.
-         let none = safe.sweep.cleared Bytes (tag_read ps) (reading_calls_cleared k ps s.list s.laws reads) in
-         let some : h.bytes ≤ sum_by (counted Bytes (tag_read ps)) ps = subst (λ u. h.bytes ≤ sum_by (counted Bytes u) ps) (sym is) (omega (arith, s.stands (counted Bytes h.tag.number), holds_bytes)) in
-         omega (arith, row.counted))
-      (λ clears. omega (arith, safe.sweep.cleared Calls h.tag.number clears, s.stands (counted Calls h.tag.number), holds_calls, was.some))
+pub rise-adds_call : (k : Shape) (h : Hand) (c d : CpuPart) (ps : List Part) → IsChecked k → AddsCall h c d → Seen k c ps → Safe k ps → RiseStep k ps Calls h.tag.number 1 c (Some (record h { calls = h.calls + 1 }))
+rise-adds_call k h c d ps ok row s safe = record {
+    rises = rises;
+    fit = fit;
+    named = λ other e. subst (λ x. IsCovered k ps x) (hand_names other hand e) covered;
+    not_read = λ reads is.
+       let none = safe.sweep.cleared Bytes (tag_read ps) (reading_calls_cleared k ps s.list s.laws reads) in
+       let some : h.bytes ≤ sum_by (counted Bytes (tag_read ps)) ps = subst (λ u. h.bytes ≤ sum_by (counted Bytes u) ps) (sym is) (omega (arith, s.stands (counted Bytes h.tag.number), holds_bytes)) in
+       omega (arith, row.counted);
+    not_cleared = λ clears. omega (arith, safe.sweep.cleared Calls h.tag.number clears, s.stands (counted Calls h.tag.number), holds_calls, was.some);
+    held = λ dead. omega (arith, s.stands (counted Calls h.tag.number), holds_calls, was.some) }
   where
     hand : Hand
     hand = record h { calls = h.calls + 1 }
-    s : Seen k c ps
-    s = seen k c [] (Cpu d ∷ []) ps qs b safe
     covered : IsCovered k ps h.tag
     covered = hand_covered k c h ps s.stands safe.fits safe.cover row.held
     holds_bytes : hand_counts Bytes h.tag.number c.hand ≡ h.bytes
@@ -181,17 +204,17 @@ safe-adds_call k h c d ps qs ok row b safe =
       hand = hand_fits_from hand (record { bytes = was.bytes; some = omega (arith, was.some); calls = omega (arith, row.room); opening = rw row.settled refl });
       may_open = rw row.settled refl }
 
+pub safe-adds_call : (k : Shape) (h : Hand) (c d : CpuPart) (ps qs : List Part) → IsChecked k → AddsCall h c d → Becomes (Cpu c ∷ []) (Cpu d ∷ []) ps qs → Safe k ps → Safe k qs
+safe-adds_call k h c d ps qs ok row b safe =
+    safe_rise k Calls h.tag.number 1 c _ ps qs (rise-adds_call k h c d ps ok row (seen k c [] (Cpu d ∷ []) ps qs b safe) safe) (subst (λ x. Becomes (Cpu c ∷ []) (Cpu x ∷ []) ps qs) row.after b) safe
+
 -- ---- sub-bytes
 
-pub safe-subtracts_bytes : (k : Shape) (bytes : ℕ) (h : Hand) (c d : CpuPart) (ps qs : List Part) → IsChecked k → SubtractsBytes bytes h c d → Becomes (Cpu c ∷ []) (Cpu d ∷ []) ps qs → Safe k ps → Safe k qs
-safe-subtracts_bytes k bytes h c d ps qs ok row b safe =
-    safe_fall k Bytes h.tag.number bytes c (Some hand) ps qs falls (subst (λ x. Becomes (Cpu c ∷ []) (Cpu x ∷ []) ps qs) row.after b) safe fit
-      (λ other e. subst (λ x. IsCovered k ps x) (hand_names other hand e) covered)
+pub fall-subtracts_bytes : (k : Shape) (bytes : ℕ) (h : Hand) (c d : CpuPart) (ps : List Part) → IsChecked k → SubtractsBytes bytes h c d → Seen k c ps → Safe k ps → FallStep k ps Bytes h.tag.number bytes c (Some (record h { bytes = h.bytes - bytes }))
+fall-subtracts_bytes k bytes h c d ps ok row s safe = record { falls = falls; fit = fit; named = λ other e. subst (λ x. IsCovered k ps x) (hand_names other hand e) covered }
   where
     hand : Hand
     hand = record h { bytes = h.bytes - bytes }
-    s : Seen k c ps
-    s = seen k c [] (Cpu d ∷ []) ps qs b safe
     covered : IsCovered k ps h.tag
     covered = hand_covered k c h ps s.stands safe.fits safe.cover row.held
     elsewhere : (other : Kind) (u : ℕ) → word_place other u ≢ word_place Bytes h.tag.number → hand_counts other u (Some hand) ≡ hand_counts other u c.hand
@@ -208,16 +231,17 @@ safe-subtracts_bytes k bytes h c d ps qs ok row b safe =
       hand = hand_fits_from hand (record { bytes = omega (arith, was.bytes); some = was.some; calls = was.calls; opening = was.opening });
       may_open = rw row.settled refl }
 
+pub safe-subtracts_bytes : (k : Shape) (bytes : ℕ) (h : Hand) (c d : CpuPart) (ps qs : List Part) → IsChecked k → SubtractsBytes bytes h c d → Becomes (Cpu c ∷ []) (Cpu d ∷ []) ps qs → Safe k ps → Safe k qs
+safe-subtracts_bytes k bytes h c d ps qs ok row b safe =
+    safe_fall k Bytes h.tag.number bytes c _ ps qs (fall-subtracts_bytes k bytes h c d ps ok row (seen k c [] (Cpu d ∷ []) ps qs b safe) safe) (subst (λ x. Becomes (Cpu c ∷ []) (Cpu x ∷ []) ps qs) row.after b) safe
+
 -- ---- sub-call
 
-pub safe-subtracts_call : (k : Shape) (h : Hand) (c d : CpuPart) (ps qs : List Part) → IsChecked k → SubtractsCall h c d → Becomes (Cpu c ∷ []) (Cpu d ∷ []) ps qs → Safe k ps → Safe k qs
-safe-subtracts_call k h c d ps qs ok row b safe =
-    safe_fall k Calls h.tag.number 1 c (without_call h) ps qs falls (subst (λ x. Becomes (Cpu c ∷ []) (Cpu x ∷ []) ps qs) row.after b) safe fit named
+pub fall-subtracts_call : (k : Shape) (h : Hand) (c d : CpuPart) (ps : List Part) → IsChecked k → SubtractsCall h c d → Seen k c ps → Safe k ps → FallStep k ps Calls h.tag.number 1 c (without_call h)
+fall-subtracts_call k h c d ps ok row s safe = record { falls = falls; fit = fit; named = named }
   where
     hand : Hand
     hand = record h { calls = h.calls - 1 }
-    s : Seen k c ps
-    s = seen k c [] (Cpu d ∷ []) ps qs b safe
     covered : IsCovered k ps h.tag
     covered = hand_covered k c h ps s.stands safe.fits safe.cover row.held
     was : HandFits h
@@ -240,3 +264,7 @@ safe-subtracts_call k h c d ps qs ok row b safe =
       words = length-set c.words _ _ ∙ s.fit.words;
       hand = last (λ o. hand_fits o ≡ true) (λ is. refl) (λ ne. hand_fits_from hand (record { bytes = was.bytes; some = omega (arith, was.some); calls = omega (arith, was.calls); opening = rw row.settled refl }));
       may_open = last (λ o. hand_may_open o c.runs ≡ true) (λ is. refl) (λ ne. rw row.settled refl) }
+
+pub safe-subtracts_call : (k : Shape) (h : Hand) (c d : CpuPart) (ps qs : List Part) → IsChecked k → SubtractsCall h c d → Becomes (Cpu c ∷ []) (Cpu d ∷ []) ps qs → Safe k ps → Safe k qs
+safe-subtracts_call k h c d ps qs ok row b safe =
+    safe_fall k Calls h.tag.number 1 c _ ps qs (fall-subtracts_call k h c d ps ok row (seen k c [] (Cpu d ∷ []) ps qs b safe) safe) (subst (λ x. Becomes (Cpu c ∷ []) (Cpu x ∷ []) ps qs) row.after b) safe

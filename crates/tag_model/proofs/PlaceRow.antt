@@ -19,7 +19,7 @@ use Rattle.tag_model.specs.Reference.{amount, same_tag, held_counts, hand_counts
 use Rattle.tag_model.specs.Shape.{IsChecked}
 use Rattle.tag_model.specs.StepRules.{WritesPlace, Becomes}
 use Rattle.tag_model.specs.WordState.{one_if, word_of, word_from, counted, counted_of, part_fits, hand_may_open, in_range}
-use Rattle.tag_model.proofs.Alike.{Alike, alike_after, alike_place, each_alike, cover_alike, sweep_alike}
+use Rattle.tag_model.proofs.Alike.{Alike, alike_after, alike_book, alike_place, each_alike, cover_alike, sweep_alike}
 use Rattle.tag_model.proofs.CpuFits.{CpuFits, cpu_fits_from}
 use Rattle.tag_model.proofs.CpuRows.{Seen, seen}
 use Rattle.tag_model.proofs.Found.{fails_none}
@@ -76,16 +76,16 @@ counts_stay c d was next stays kind t =
 
 -- ---- write-cell
 
-settled_may_open : (o : Option Hand) (runs : List Run) → is_settled o ≡ true → hand_may_open o runs ≡ true
+pub settled_may_open : (o : Option Hand) (runs : List Run) → is_settled o ≡ true → hand_may_open o runs ≡ true
 settled_may_open None runs e = refl
 settled_may_open (Some h) runs e = rw e refl
 
 pub safe-writes_place : (k : Shape) (n : ℕ) (c d : CpuPart) (was next : Held) (ps qs : List Part) → IsChecked k → WritesPlace c d was next → Becomes (Cpu c ∷ Place n was ∷ []) (Cpu d ∷ Place n next ∷ []) ps qs → Safe k ps → Safe k qs
 safe-writes_place k n c d was next ps qs ok row steps safe = record {
     fits = every_after (part_fits k) v w ps qs b (omega (arith, fails_none (part_fits k (Cpu e)) (cpu_fits_from k e fit), fails_none (held_fits next) row.place_fits)) safe.fits;
-    each = each_alike k ps qs alike safe.each;
+    each = each_alike k ps qs (alike_book ps qs alike) safe.each;
     sums = record { sums = λ kind t. omega (arith, safe.sums.sums kind t, words kind t, counts kind t) };
-    cover = cover_alike k ps qs alike safe.cover (λ tag h. safe.cover.named tag (omega (arith, becomes_same (counted_of Calls tag) v w ps qs b (omega (arith, row.stays Calls tag)))));
+    cover = cover_alike k ps qs (alike_book ps qs alike) safe.cover (λ tag h. safe.cover.named tag (omega (arith, becomes_same (counted_of Calls tag) v w ps qs b (omega (arith, row.stays Calls tag)))));
     sweep = sweep_alike k ps qs alike safe.sweep
       (λ kind s h le. rw (counts kind (tag_read ps), becomes_same (word_from (cpu_read ps) kind (tag_read ps)) v w ps qs b refl) le)
       (λ kind t h none. omega (arith, counts kind t)) }

@@ -1,22 +1,26 @@
 //! Each step of the step rules keeps all the laws. The functions do nothing: what they promise are laws of the
 //! definitions.
 
-ghost use Rattle.std.specs.Prelude.{ℕ, ◌≡◌, ◌≤◌, ◌==◌, List, [], ◌∷◌, count_by, sum_by};
+ghost use Rattle.std.specs.List.{list_any};
+ghost use Rattle.std.specs.Prelude.{ℕ, ◌≡◌, ◌<◌, ◌≤◌, ◌==◌, ◌&&◌, IsTrue, List, [], ◌∷◌, count_by, sum_by};
 ghost use Rattle.tag_model.specs.Laws.{Safe, SumLaw, has_hand, live_of};
 ghost use Rattle.tag_model.specs.Reference.{live_total};
 ghost use Rattle.tag_model.specs.Shape.{IsChecked};
 ghost use Rattle.tag_model.specs.StepRules.{
-    AddsBytes, AddsCall, Becomes, BeginsAllocation, SubtractsBytes, SubtractsCall, WritesPlace,
+    AddsBytes, AddsCall, BaseMove, Becomes, BeginsAllocation, Releases, Steps, SubtractsBytes, SubtractsCall, WritesPlace,
 };
-ghost use Rattle.tag_model.specs.WordState.{counted, word_of};
+ghost use Rattle.tag_model.specs.WordState.{counted, counted_of, in_range, word_of};
 ghost use Rattle.tag_model.specs.Wrap.{wrap};
 ghost use Rattle.tag_model.specs.declared.shape.Shape.{Shape};
 ghost use Rattle.tag_model.specs.declared.state.CpuPart.{CpuPart};
 ghost use Rattle.tag_model.specs.declared.state.Hand.{Hand};
 ghost use Rattle.tag_model.specs.declared.state.Held.{Held};
 ghost use Rattle.tag_model.specs.declared.state.Kind.{Kind};
-ghost use Rattle.tag_model.specs.declared.state.Part.TheVariants.{Cpu, Place};
+ghost use Rattle.tag_model.specs.declared.state.Kind.TheVariants.{Calls};
+ghost use Rattle.tag_model.specs.declared.state.ListPart.{ListPart};
+ghost use Rattle.tag_model.specs.declared.state.Part.TheVariants.{Cpu, Modules, Place};
 ghost use Rattle.tag_model.specs.declared.state.Part.{Part};
+ghost use Rattle.tag_model.specs.declared.state.Record.{Record};
 ghost use Rattle.tag_model.specs.declared.state.Tag.{Tag};
 
 /// After each step of a CPU on a word or a place, each tag's words are still what places and hands count, modulo
@@ -37,5 +41,26 @@ pub fn quiet_sums_are_those_of_the_live_list()
     ensures counted { (parts : List Part) (kind : Kind) (t : ℕ) → sum_by has_hand parts ≡ 0 → sum_by (counted kind t) parts ≡ live_total kind t (live_of parts) }
     ensures words { (k : Shape) (parts : List Part) (kind : Kind) (t : ℕ) → Safe k parts → sum_by has_hand parts ≡ 0 → wrap (sum_by (word_of kind t) parts) ≡ wrap (live_total kind t (live_of parts)) }
     ensures no_place_twice { (k : Shape) (parts : List Part) (n : ℕ) → Safe k parts → count_by (λ (entry : ℕ × Held). entry.0 == n) (live_of parts) ≤ 1 }
+{
+}
+
+/// A step of the step rules leads from a safe state to a safe state.
+pub fn steps_are_safe()
+    ensures { (k : Shape) (old new : List Part) → IsChecked k → Steps k old new → Safe k old → Safe k new }
+{
+}
+
+/// A base move leads from a safe state to a safe state.
+pub fn base_moves_are_safe()
+    ensures { (k : Shape) (v w old new : List Part) → BaseMove v w → Becomes v w old new → Safe k old → Safe k new }
+{
+}
+
+/// A release takes a dead record, and finds nothing counted under a tag of its module, by a place or a hand, nor under
+/// a tag number of its range.
+pub fn a_release_finds_nothing()
+    ensures dead { (k : Shape) (left : List ℕ) (id : ℕ) (from to : ListPart) (old new : List Part) → Releases left id from to → Becomes (Modules from ∷ []) (Modules to ∷ []) old new → Safe k old → IsTrue (list_any (λ (r : Record). (r.id == id) && r.dead) from.records) }
+    ensures of_module { (k : Shape) (left : List ℕ) (id : ℕ) (from to : ListPart) (old new : List Part) → Releases left id from to → Becomes (Modules from ∷ []) (Modules to ∷ []) old new → Safe k old → (tag : Tag) → tag.module ≡ id → sum_by (counted_of Calls tag) old ≡ 0 }
+    ensures in_its_range { (k : Shape) (left : List ℕ) (id : ℕ) (from to : ListPart) (old new : List Part) → Releases left id from to → Becomes (Modules from ∷ []) (Modules to ∷ []) old new → Safe k old → (kind : Kind) (t : ℕ) → 0 < count_by (λ (r : Record). (r.id == id) && in_range r.start r.length t) from.records → sum_by (counted kind t) old ≡ 0 }
 {
 }

@@ -1,0 +1,38 @@
+-- Each step of the step rules, and each base move, leads from a safe state to a safe state.
+use Rattle.std.proofs.Common.{List}
+use Rattle.tag_model.specs.declared.shape.Shape.{Shape}
+use Rattle.tag_model.specs.declared.state.Part.{Part}
+use Rattle.tag_model.specs.Laws.{Safe}
+use Rattle.tag_model.specs.Shape.{IsChecked}
+use Rattle.tag_model.specs.StepRules.{Row, BaseMove, Becomes, Steps}
+use Rattle.tag_model.proofs.BaseMoves.{safe-gives_run, safe-takes_run, safe-notes_record}
+use Rattle.tag_model.proofs.BookRows.{safe-sweeps, safe-enters, safe-leaves}
+use Rattle.tag_model.proofs.CpuRows.{safe-begins_allocation, safe-adds_bytes, safe-adds_call, safe-subtracts_bytes, safe-subtracts_call}
+use Rattle.tag_model.proofs.DeadRow.{safe-marks_dead}
+use Rattle.tag_model.proofs.LoadRow.{safe-loads}
+use Rattle.tag_model.proofs.PlaceRow.{safe-writes_place}
+use Rattle.tag_model.proofs.ReleaseRow.{safe-releases}
+use Rattle.tag_model.proofs.ScanRow.{safe-scans}
+
+pub row_is_safe : (k : Shape) (v w ps qs : List Part) → IsChecked k → Row k v w → Becomes v w ps qs → Safe k ps → Safe k qs
+row_is_safe k v w ps qs ok (Row.begins_allocation {tag} {old} {new} r) b safe = safe-begins_allocation k tag old new ps qs ok r b safe
+row_is_safe k v w ps qs ok (Row.adds_call {hand} {old} {new} r) b safe = safe-adds_call k hand old new ps qs ok r b safe
+row_is_safe k v w ps qs ok (Row.adds_bytes {size} {hand} {old} {new} r) b safe = safe-adds_bytes k size hand old new ps qs ok r b safe
+row_is_safe k v w ps qs ok (Row.subtracts_bytes {bytes} {hand} {old} {new} r) b safe = safe-subtracts_bytes k bytes hand old new ps qs ok r b safe
+row_is_safe k v w ps qs ok (Row.subtracts_call {hand} {old} {new} r) b safe = safe-subtracts_call k hand old new ps qs ok r b safe
+row_is_safe k v w ps qs ok (Row.writes_place {n} {old} {new} {was} {next} r) b safe = safe-writes_place k n old new was next ps qs ok r b safe
+row_is_safe k v w ps qs ok (Row.scans {left} {r} {cpu} {old} {new} s) b safe = safe-scans k left r cpu old new ps qs ok s b safe
+row_is_safe k v w ps qs ok (Row.loads {section} {start} {length} {id} {old} {new} r) b safe = safe-loads k section start length id old new ps qs ok r b safe
+row_is_safe k v w ps qs ok (Row.enters {old} {new} r) b safe = safe-enters k old new ps qs ok r b safe
+row_is_safe k v w ps qs ok (Row.leaves {old} {new} r) b safe = safe-leaves k old new ps qs ok r b safe
+row_is_safe k v w ps qs ok (Row.marks_dead {old} {new} r) b safe = safe-marks_dead k old new ps qs ok r b safe
+row_is_safe k v w ps qs ok (Row.sweeps {old} {new} r) b safe = safe-sweeps k old new ps qs ok r b safe
+row_is_safe k v w ps qs ok (Row.releases {left} {id} {old} {new} r) b safe = safe-releases k left id old new ps qs ok r b safe
+
+pub step_is_safe : (k : Shape) (ps qs : List Part) → IsChecked k → Steps k ps qs → Safe k ps → Safe k qs
+step_is_safe k ps qs ok s safe = row_is_safe k s.v s.w ps qs ok s.row s.becomes safe
+
+pub base_move_is_safe : (k : Shape) (v w ps qs : List Part) → BaseMove v w → Becomes v w ps qs → Safe k ps → Safe k qs
+base_move_is_safe k v w ps qs (BaseMove.gives_run {old} {new} {from} {to} r) b safe = safe-gives_run k old new from to ps qs r b safe
+base_move_is_safe k v w ps qs (BaseMove.takes_run {old} {new} {from} {to} r) b safe = safe-takes_run k old new from to ps qs r b safe
+base_move_is_safe k v w ps qs (BaseMove.notes_record {old} {new} {list} r) b safe = safe-notes_record k old new list ps qs r b safe
