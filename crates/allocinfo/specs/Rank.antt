@@ -1,5 +1,5 @@
 -- The order of rows by what they hold.
-use Rattle.std.specs.Prelude.{ℕ, ◌==◌, Bool, ◌&&◌, ◌||◌, List, [], ◌∷◌, ◌++◌, nat_lt, take, IsPermutation, if◌then◌else◌}
+use Rattle.std.specs.Prelude.{ℕ, ◌==◌, Bool, ◌&&◌, ◌||◌, List, [], ◌∷◌, nat_lt, take, IsPermutation, if◌then◌else◌}
 use Rattle.std.specs.List.Sorted.{IsSortedBy, IsStableBy}
 use Rattle.tag_section.specs.Section.{Section}
 use Rattle.allocinfo.specs.Text.{rows_text}

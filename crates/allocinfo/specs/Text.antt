@@ -1,5 +1,5 @@
 -- The text of allocinfo: two header lines, and a line for each row.
-use Rattle.std.specs.Prelude.{ℕ, ◌-◌, ◌+◌, ◌^◌, ◌<◌, ◌==◌, List, ◌++◌, Option, Some, None, length, replicate, codes, decimal, nat_lt, IsTrue, All, if◌then◌else◌}
+use Rattle.std.specs.Prelude.{ℕ, ◌-◌, ◌^◌, ◌<◌, ◌==◌, List, ◌++◌, Option, Some, None, length, replicate, codes, decimal, nat_lt, IsTrue, All, if◌then◌else◌}
 use Rattle.std.specs.List.{flat_map}
 use Rattle.codetag.specs.TagParts.{tag_text, kept_text}
 use Rattle.tag_section.specs.Section.{Section, section_at, tag_at}

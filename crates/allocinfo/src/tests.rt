@@ -1,7 +1,8 @@
+ghost use Rattle.std.specs.Prelude.{◌≡◌, false};
+
 use crate::{Row, print_rows, print_top, ranked_rows, write_header, write_line};
 use codetag::CodeTag;
 use std::alloc::Global;
-use std::process::Abort;
 use std::test::Fail;
 use tag_section::Sections;
 
@@ -18,7 +19,9 @@ fn three_tags(alloc: Global) -> Result<Sections, Fail> {
     Ok(sections)
 }
 
-fn row(bytes: u64, calls: u64, section: u32, index: u32) -> Row {
+fn row(bytes: u64, calls: u64, section: u32, index: u32) -> Row
+    ensures { result ≡ record { bytes = bytes; calls = calls; section = section; index = index; kept = false } }
+{
     Row {
         bytes,
         calls,
@@ -98,5 +101,36 @@ fn writes_lines(rt: HostRuntime) -> Result<(), Fail> {
     let lines =
         b"        4096        1 mm/a.c:10 func:fa \n           0        0 fs/ext4/a.c:11 [ext4] func:ext4_a \n        2048        1 fs/ext4/a.c:11 [ext4:kept] func:ext4_a \n          -1 18446744073709551615 mm/b.c:20 func:fb \n-9223372036854775808      123 mm/b.c:20 func:fb \n";
     assert_eq!(rt; out.as_slice(), lines.as_slice());
+    Ok(())
+}
+
+#[test]
+fn prints_all_rows_and_the_top(rt: HostRuntime) -> Result<(), Fail> {
+    let sections = three_tags(rt.alloc())?;
+    assert!(rt; sections.count() == 2);
+    assert!(rt; sections.len_of(0) == 2);
+    assert!(rt; sections.len_of(1) == 1);
+    let rows = [
+        row(0, 0, 0, 0),
+        row(16384, 1, 0, 1),
+        row(16384, 4, 1, 0),
+        row(16384, 1, 0, 0),
+    ];
+
+    let mut out = Vec::new(rt.alloc());
+    print_rows(&sections, &rows, &mut out)?;
+    let all =
+        b"allocinfo - version: 1.0\n#     <size>  <calls> <tag info>\n           0        0 mm/a.c:10 func:fa \n       16384        1 mm/b.c:20 func:fb \n       16384        4 fs/ext4/a.c:11 [ext4] func:ext4_a \n       16384        1 mm/a.c:10 func:fa \n";
+    assert_eq!(rt; out.as_slice(), all.as_slice());
+
+    let mut out = Vec::new(rt.alloc());
+    print_top(rt.alloc(), &sections, &rows, 3, &mut out)?;
+    let top =
+        b"allocinfo - version: 1.0\n#     <size>  <calls> <tag info>\n       16384        4 fs/ext4/a.c:11 [ext4] func:ext4_a \n       16384        1 mm/b.c:20 func:fb \n       16384        1 mm/a.c:10 func:fa \n";
+    assert_eq!(rt; out.as_slice(), top.as_slice());
+
+    let ranking = ranked_rows(rt.alloc(), &rows)?;
+    let [none, least, most, tie] = rows;
+    assert_eq!(rt; ranking.as_slice(), [most, least, tie, none].as_slice());
     Ok(())
 }

@@ -1,4 +1,4 @@
-use Rattle.std.proofs.Common.{◌≡◌, List, All, take, sym, ◌∙◌, subst}
+use Rattle.std.proofs.Common.{List, All, take, sym, ◌∙◌, subst}
 use Rattle.std.proofs.lemmas.List.Elements.{All-take}
 use Rattle.std.proofs.lemmas.List.Sorted.{All-permutation}
 use Rattle.allocinfo.specs.declared.rows.Row.{Row}

@@ -1,4 +1,4 @@
-use Rattle.std.proofs.Common.{◌≡◌, ◌∙◌, ap, filter, rules}
+use Rattle.std.proofs.Common.{◌∙◌, ap, filter, rules}
 use Rattle.std.specs.List.Sorted.{ties}
 use Rattle.std.proofs.lemmas.List.Sorted.{answers_always}
 use Rattle.allocinfo.specs.Rank.{holds_more}
