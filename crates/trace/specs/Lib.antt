@@ -7,3 +7,5 @@ pub mod Head
 pub mod StepWords
 pub mod StepGrammar
 pub mod StepReading
+pub mod TraceWords
+pub mod TraceGrammar

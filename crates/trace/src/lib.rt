@@ -10,6 +10,9 @@ mod step_lines;
 mod step_reading;
 mod step_words;
 pub mod steps;
+mod trace_lines;
+mod trace_words;
+pub mod traces;
 mod words;
 
 pub use code::{Code, TextError};
