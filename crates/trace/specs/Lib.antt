@@ -9,3 +9,4 @@ pub mod StepGrammar
 pub mod StepReading
 pub mod TraceWords
 pub mod TraceGrammar
+pub mod TraceReading

@@ -38,4 +38,3 @@ on_name word =
     if is_word (codes "leave") word then Ok name.Leave else
     if is_word (codes "unload") word then Ok name.Unload else
     Err Word
-

@@ -82,7 +82,12 @@ fn trace_op(sections: &Sections, name: OnName, line: &[u8]) -> Result<TraceOp, C
 
 /// `on CPU OP ..`
 #[tactic(auto, unfolding(crate::specs::TraceGrammar::on_line))]
-pub(crate) fn on_line(cpus: u32, sections: &Sections, number: u32, line: &[u8]) -> Result<OnOp, Code>
+pub(crate) fn on_line(
+    cpus: u32,
+    sections: &Sections,
+    number: u32,
+    line: &[u8],
+) -> Result<OnOp, Code>
     ensures { result ≡ on_line cpus sections.now number line.now }
 {
     let name = on_name(word_at(line, 2))?;

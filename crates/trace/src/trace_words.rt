@@ -102,4 +102,3 @@ pub(crate) fn on_name(word: &[u8]) -> Result<OnName, Code>
         Err(Code::Word)
     }
 }
-
