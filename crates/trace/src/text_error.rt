@@ -6,7 +6,8 @@ ghost use Rattle.trace.specs.Judging.{error_at};
 use crate::code::TextError;
 use crate::line_error::LineError;
 
-pub(crate) fn error_at(line: u32, error: LineError) -> TextError
+/// The error, at the line.
+pub fn error_at(line: u32, error: LineError) -> TextError
     ensures { result ≡ error_at line error }
 {
     match error {
