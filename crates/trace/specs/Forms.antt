@@ -5,7 +5,6 @@ use Rattle.text_form.specs.Lines.{is_form_byte}
 use Rattle.trace.specs.declared.code.Code.{Code}
 use Rattle.trace.specs.declared.code.Code.TheVariants as code
 use Rattle.trace.specs.Judging.{◌>>◌, need}
-use Rattle.trace.specs.Words.{is_word}
 
 -- a line with its newline; comments and empty lines too
 unfoldable pub line_form : ℕ → List ℕ → Result ⊤ Code
@@ -22,11 +21,11 @@ tail_form number tail = if length tail == 0 then Ok tt else if nat_le number 131
 unfoldable pub is_skipped : List ℕ → Bool
 is_skipped line = length line == 0 || slice_index line 0 == 35
 
--- the first line is the header
-unfoldable pub first_line : List ℕ → List (List ℕ) → List ℕ → Result ⊤ Code
-first_line header [] tail = do
+-- the first line, which is to be the header
+unfoldable pub first_line : List (List ℕ) → List ℕ → Result (List ℕ) Code
+first_line [] tail = do
   tail_form 1 tail
   Err code.Header
-first_line header (line ∷ lines) tail = do
+first_line (line ∷ lines) tail = do
   line_form 1 line
-  need (is_word header line) code.Header
+  Ok line

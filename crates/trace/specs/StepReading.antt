@@ -17,6 +17,7 @@ use Rattle.trace.specs.Head.{empty_head, cpus_of, size_line, kernel_line, sectio
 use Rattle.trace.specs.Judging.{◌>>=◌, ◌>>◌, need, at}
 use Rattle.trace.specs.StepGrammar.{do_line, go_line, words_line}
 use Rattle.trace.specs.StepWords.{step_keyword}
+use Rattle.trace.specs.Words.{is_word}
 
 -- before the second line
 abbrev pub empty_reading : StepReading
@@ -90,6 +91,7 @@ steps_from reading = record { cpus = cpus_of reading.head; area = unwrap_or read
 -- the schedule that a text spells, or the first line that fails with its code
 unfoldable pub steps_of : List ℕ → Result Steps (ℕ × Code)
 steps_of text = do
-  at 1 (first_line (codes "memprof-steps 1.0") (lines_of text) (tail_of text))
+  header ← at 1 (first_line (lines_of text) (tail_of text))
+  at 1 (need (is_word (codes "memprof-steps 1.0") header) code.Header)
   reading ← step_lines 2 (drop 1 (lines_of text)) (tail_of text) empty_reading
   Ok (steps_from reading)

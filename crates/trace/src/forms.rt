@@ -5,7 +5,7 @@ ghost use Rattle.text_form.specs.Lines.{lines_of, tail_of};
 ghost use Rattle.trace.specs.Forms.{is_skipped, line_form, tail_form, first_line};
 
 use crate::code::Code;
-use crate::words::{is_word, need};
+use crate::words::need;
 use text_form::{has_form_bytes, next_line};
 
 /// The most lines of an input.
@@ -46,13 +46,14 @@ pub(crate) fn is_skipped(line: &[u8]) -> bool
     line.is_empty() || line[0] == b'#'
 }
 
-/// The first line, which is the header. Gives the text behind it.
+/// The first line, which is to be the header, and the text behind it.
 #[tactic(auto, unfolding(crate::specs::Forms::first_line))]
-pub(crate) fn first_line<'a>(header: &[u8], text: &'a [u8]) -> Result<&'a [u8], Code>
+pub(crate) fn first_line(text: &[u8]) -> Result<(&[u8], &[u8]), Code>
     ensures judged { MatchResult result
-        (λ rest. first_line header.now (lines_of text.now) (tail_of text.now) ≡ Ok tt)
-        (λ code. first_line header.now (lines_of text.now) (tail_of text.now) ≡ Err code) }
-    ensures rest { IfOk result (λ rest. (lines_of rest.now ≡ drop 1 (lines_of text.now)) × (tail_of rest.now ≡ tail_of text.now) × (length rest.now < length text.now)) }
+        (λ x. first_line (lines_of text.now) (tail_of text.now) ≡ Ok x.0.now)
+        (λ code. first_line (lines_of text.now) (tail_of text.now) ≡ Err code) }
+    ensures rest { IfOk result (λ x. (lines_of x.1.now ≡ drop 1 (lines_of text.now))
+        × (tail_of x.1.now ≡ tail_of text.now) × (length x.1.now < length text.now)) }
 {
     match next_line(text) {
         None => {
@@ -61,8 +62,7 @@ pub(crate) fn first_line<'a>(header: &[u8], text: &'a [u8]) -> Result<&'a [u8], 
         }
         Some((line, rest)) => {
             line_form(1, line)?;
-            need(is_word(line, header), Code::Header)?;
-            Ok(rest)
+            Ok((line, rest))
         }
     }
 }

@@ -9,8 +9,21 @@ mod places;
 mod step_lines;
 mod step_reading;
 mod step_words;
-pub mod steps;
+mod steps;
+mod text_error;
+mod trace_lines;
+mod trace_reading;
+mod trace_words;
+mod traces;
 mod words;
 
 pub use code::{Code, TextError};
+pub use line_error::LineError;
 pub use step_reading::read_steps;
+pub use steps::{StepAct, StepActor, StepLine, StepLines, StepOp, Steps};
+pub use trace_reading::read_trace;
+pub use text_error::error_at;
+pub use traces::{Item, Items, OnOp, OnOps, Trace, TraceOp};
+
+#[cfg(test)]
+mod tests;

@@ -8,7 +8,7 @@ use std::alloc::AllocError;
 
 /// The first check that failed, or want of memory.
 #[derive(Debug, Drop)]
-pub(crate) enum LineError {
+pub enum LineError {
     Refused(Code),
     Memory(AllocError),
 }

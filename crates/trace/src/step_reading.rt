@@ -2,8 +2,12 @@
 
 ghost use Rattle.std.specs.Prelude.{◌≡◌, ◌<◌, ◌≤◌, length, IfOk, OnOk};
 ghost use Rattle.text_form.specs.Lines.{lines_of, tail_of};
+<<<<<<< HEAD
 ghost use Rattle.trace.specs.Judging.{Leaves, Reads, error_at};
 ghost use Rattle.trace.specs.StepForm.{AreSteps};
+=======
+ghost use Rattle.trace.specs.Judging.{Leaves, Reads};
+>>>>>>> f163d4f9456e710f5cf3ed9787cbbc3625a490fb
 ghost use Rattle.trace.specs.StepReading.{empty_reading, in_body, keyword_line, step_line, step_lines, steps_from, steps_of, with_act, with_print};
 
 use crate::code::{Code, TextError};
@@ -15,7 +19,8 @@ use crate::line_error::LineError;
 use crate::step_lines::{do_line, go_line, words_line};
 use crate::step_words::{StepKeyword, step_keyword};
 use crate::steps::{StepAct, StepLine, StepLines, Steps};
-use crate::words::need;
+use crate::text_error::error_at;
+use crate::words::{is_word, need};
 use std::alloc::{AllocError, Global};
 use text_form::{has_empty_word, next_line, word_at, word_count};
 
@@ -132,15 +137,6 @@ fn step_line(
     keyword_line(alloc, reading, keyword, number, line)
 }
 
-fn error_at(line: u32, error: LineError) -> TextError
-    ensures { result ≡ error_at line error }
-{
-    match error {
-        LineError::Refused(code) => TextError::Refused { line, code },
-        LineError::Memory(error) => TextError::Memory(error),
-    }
-}
-
 // All lines from the second on, and the end.
 fn step_lines(alloc: Global, text: &[u8]) -> Result<StepReading, TextError>
     requires { length text.now ≤ 4194304 }
@@ -172,10 +168,16 @@ pub fn read_steps(alloc: Global, text: &[u8]) -> Result<Steps, TextError>
     ensures value { Reads result (steps_of text.now) }
     ensures formed { IfOk result AreSteps }
 {
-    let rest = match first_line(b"memprof-steps 1.0", text) {
-        Ok(rest) => rest,
+    let (header, rest) = match first_line(text) {
+        Ok(parts) => parts,
         Err(code) => return Err(TextError::Refused { line: 1, code }),
     };
+    if !is_word(header, b"memprof-steps 1.0") {
+        return Err(TextError::Refused {
+            line: 1,
+            code: Code::Header,
+        });
+    }
     let reading = step_lines(alloc, rest)?;
     Ok(Steps {
         cpus: cpus_of(&reading.head),

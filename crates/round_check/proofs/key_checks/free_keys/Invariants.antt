@@ -1,0 +1,7 @@
+use Rattle.std.proofs.Common.{◌≡◌, ◌+◌, ◌-◌}
+use Rattle.std.specs.List.{range_with_len}
+use Rattle.round_check.specs.Keys.{free_keys}
+use Rattle.round_check.proofs.key_checks.free_keys.Given as goal
+
+abbrev pub invariant-loop-key : goal.invariant-loop-key
+invariant-loop-key l = free_keys l.keys (range_with_len l.key (l.first + l.count - l.key)) ≡ free_keys l.keys (range_with_len l.first l.count)

@@ -1,0 +1,12 @@
+//! The check of a trace's rounds.
+#![tactic(auto)]
+
+mod key_checks;
+mod keys;
+mod modules;
+mod seats;
+mod walk;
+
+
+
+

@@ -1,0 +1,139 @@
+-- How a trace is read: a fold over its lines.
+use Rattle.std.specs.Prelude.{ℕ, ◌+◌, ◌==◌, Bool, true, false, not, ◌||◌, nat_lt, List, [], ◌∷◌, ◌++◌, length, drop, Option, Some, None, is_some, unwrap_or, Result, Ok, Err, codes, if◌then◌else◌}
+use Rattle.text_form.specs.Lines.{lines_of, tail_of}
+use Rattle.text_form.specs.Words.{words_of, word_at, has_empty_word}
+use Rattle.trace.specs.declared.code.Code.{Code}
+use Rattle.trace.specs.declared.code.Code.TheVariants as code
+use Rattle.trace.specs.declared.head.Head.{Head}
+use Rattle.trace.specs.declared.head.Size.TheVariants as size
+use Rattle.trace.specs.declared.trace_reading.TraceReading.{TraceReading}
+use Rattle.trace.specs.declared.trace_words.TraceKeyword.{TraceKeyword}
+use Rattle.trace.specs.declared.trace_words.TraceKeyword.TheVariants as keyword
+use Rattle.trace.specs.declared.traces.Item.{Item}
+use Rattle.trace.specs.declared.traces.Item.TheVariants as item
+use Rattle.trace.specs.declared.traces.OnOp.{OnOp}
+use Rattle.trace.specs.declared.traces.Trace.{Trace}
+use Rattle.trace.specs.Forms.{line_form, tail_form, is_skipped, first_line}
+use Rattle.trace.specs.Head.{empty_head, cpus_of, size_line, kernel_line, section_form, module_line, tag_line}
+use Rattle.trace.specs.Judging.{◌>>=◌, ◌>>◌, need, at}
+use Rattle.trace.specs.Places.{module_word}
+use Rattle.trace.specs.TraceGrammar.{on_line}
+use Rattle.trace.specs.TraceWords.{trace_keyword}
+use Rattle.trace.specs.Words.{is_word}
+
+-- before the second line
+abbrev pub empty_reading : TraceReading
+empty_reading = record { head = empty_head; items = []; round = None; prints = 0 }
+
+abbrev pub with_head : TraceReading → Result Head Code → Result TraceReading Code
+with_head reading head = do
+  new ← head
+  Ok (record reading { head = new })
+
+-- the items so far, where the round that is open ends here
+abbrev pub closed : List Item → Option (List OnOp) → List Item
+closed items None = items
+closed items (Some ops) = items ++ item.Round ops ∷ []
+
+-- one item more, which ends the round
+abbrev pub with_item : Item → TraceReading → TraceReading
+with_item new reading = record reading { items = closed reading.items reading.round ++ new ∷ []; round = None }
+
+-- one item more that prints
+abbrev pub with_print : Item → TraceReading → TraceReading
+with_print new reading = record (with_item new reading) { prints = reading.prints + 1 }
+
+-- a round begins, and the one before it ends
+abbrev pub with_round : TraceReading → TraceReading
+with_round reading = record reading { items = closed reading.items reading.round; round = Some [] }
+
+abbrev pub op_more : OnOp → Option (List OnOp) → Option (List OnOp)
+op_more op None = None
+op_more op (Some ops) = Some (ops ++ op ∷ [])
+
+-- one op more in the round
+abbrev pub with_op : OnOp → TraceReading → TraceReading
+with_op op reading = record reading { round = op_more op reading.round }
+
+-- whether the body has begun
+abbrev pub in_body : TraceReading → Bool
+in_body reading = not (length reading.items == 0) || is_some reading.round
+
+unfoldable pub keyword_line : TraceKeyword → ℕ → List ℕ → TraceReading → Result TraceReading Code
+keyword_line keyword.Cpus number line reading = with_head reading (size_line size.Cpus line reading.head)
+keyword_line keyword.Area number line reading = with_head reading (size_line size.Area line reading.head)
+keyword_line keyword.Frames number line reading = with_head reading (size_line size.Frames line reading.head)
+keyword_line keyword.Vectors number line reading = with_head reading (size_line size.Vectors line reading.head)
+keyword_line keyword.Kernel number line reading = with_head reading (kernel_line line reading.head)
+keyword_line keyword.Module number line reading = with_head reading (module_line (in_body reading) line reading.head)
+keyword_line keyword.Tag number line reading = with_head reading (tag_line (in_body reading) line reading.head)
+keyword_line keyword.Load number line reading = do
+  section_form reading.head.sections
+  need (length (words_of line) == 2) code.Word
+  section ← module_word reading.head.sections (word_at line 1)
+  Ok (with_item (item.Load number section) reading)
+keyword_line keyword.Round number line reading = do
+  section_form reading.head.sections
+  need (length (words_of line) == 1) code.Word
+  Ok (with_round reading)
+keyword_line keyword.Print number line reading = do
+  section_form reading.head.sections
+  need (length (words_of line) == 1) code.Word
+  need (nat_lt reading.prints 64) code.Prints
+  Ok (with_print item.Print reading)
+keyword_line keyword.Areas number line reading = do
+  section_form reading.head.sections
+  need (length (words_of line) == 1) code.Word
+  need (nat_lt reading.prints 64) code.Prints
+  Ok (with_print item.Areas reading)
+keyword_line keyword.On number line reading = do
+  section_form reading.head.sections
+  need (is_some reading.round) code.NoRound
+  op ← on_line (cpus_of reading.head) reading.head.sections number line
+  Ok (with_op op reading)
+
+-- a line from the second on
+unfoldable pub trace_line : ℕ → List ℕ → TraceReading → Result TraceReading Code
+trace_line number line reading = do
+  line_form number line
+  if is_skipped line then Ok reading else do
+    need (not (has_empty_word line)) code.Word
+    keyword ← trace_keyword (word_at line 0)
+    keyword_line keyword number line reading
+
+-- the lines from a number on, then what stands behind the last newline, then the end
+abbrev pub trace_lines : ℕ → List (List ℕ) → List ℕ → TraceReading → Result TraceReading (ℕ × Code)
+trace_lines number [] tail reading = at number (do
+  tail_form number tail
+  section_form reading.head.sections
+  Ok reading)
+trace_lines number (line ∷ lines) tail reading = do
+  new ← at number (trace_line number line reading)
+  trace_lines (number + 1) lines tail new
+
+-- whether kept ranges are shown, by the header's version
+unfoldable pub trace_header : List ℕ → Result Bool Code
+trace_header line =
+    if is_word (codes "memprof-trace 1.0") line then Ok false else
+    if is_word (codes "memprof-trace 1.1") line then Ok true else
+    Err code.Header
+
+-- what was read, with the defaults of the sizes that were not set
+abbrev pub trace_from : Bool → TraceReading → Trace
+trace_from shows_kept reading = record {
+  shows_kept = shows_kept;
+  cpus = cpus_of reading.head;
+  area = unwrap_or reading.head.area 896;
+  frames = unwrap_or reading.head.frames 1024;
+  vectors = unwrap_or reading.head.vectors 64;
+  sections = reading.head.sections;
+  body = closed reading.items reading.round;
+}
+
+-- the trace that a text spells, or the first line that fails with its code
+unfoldable pub trace_of : List ℕ → Result Trace (ℕ × Code)
+trace_of text = do
+  header ← at 1 (first_line (lines_of text) (tail_of text))
+  shows_kept ← at 1 (trace_header header)
+  reading ← trace_lines 2 (drop 1 (lines_of text)) (tail_of text) empty_reading
+  Ok (trace_from shows_kept reading)

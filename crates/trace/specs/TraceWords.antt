@@ -1,0 +1,40 @@
+-- The words of the trace language that say what a line is.
+use Rattle.std.specs.Prelude.{ℕ, List, Result, codes, if◌then◌else◌, Ok, Err}
+use Rattle.trace.specs.declared.code.Code.{Code}
+use Rattle.trace.specs.declared.code.Code.TheVariants.{Word}
+use Rattle.trace.specs.declared.trace_words.TraceKeyword.{TraceKeyword}
+use Rattle.trace.specs.declared.trace_words.TraceKeyword.TheVariants as keyword
+use Rattle.trace.specs.declared.trace_words.OnName.{OnName}
+use Rattle.trace.specs.declared.trace_words.OnName.TheVariants as name
+use Rattle.trace.specs.Words.{is_word}
+
+unfoldable pub trace_keyword : List ℕ → Result TraceKeyword Code
+trace_keyword word =
+    if is_word (codes "cpus") word then Ok keyword.Cpus else
+    if is_word (codes "area") word then Ok keyword.Area else
+    if is_word (codes "frames") word then Ok keyword.Frames else
+    if is_word (codes "vectors") word then Ok keyword.Vectors else
+    if is_word (codes "kernel") word then Ok keyword.Kernel else
+    if is_word (codes "module") word then Ok keyword.Module else
+    if is_word (codes "tag") word then Ok keyword.Tag else
+    if is_word (codes "load") word then Ok keyword.Load else
+    if is_word (codes "round") word then Ok keyword.Round else
+    if is_word (codes "print") word then Ok keyword.Print else
+    if is_word (codes "areas") word then Ok keyword.Areas else
+    if is_word (codes "on") word then Ok keyword.On else
+    Err Word
+
+unfoldable pub on_name : List ℕ → Result OnName Code
+on_name word =
+    if is_word (codes "page") word then Ok name.Page else
+    if is_word (codes "kmalloc") word then Ok name.Kmalloc else
+    if is_word (codes "free") word then Ok name.Free else
+    if is_word (codes "split") word then Ok name.Split else
+    if is_word (codes "swap") word then Ok name.Swap else
+    if is_word (codes "trim") word then Ok name.Trim else
+    if is_word (codes "hook") word then Ok name.Hook else
+    if is_word (codes "unhook") word then Ok name.Unhook else
+    if is_word (codes "enter") word then Ok name.Enter else
+    if is_word (codes "leave") word then Ok name.Leave else
+    if is_word (codes "unload") word then Ok name.Unload else
+    Err Word
