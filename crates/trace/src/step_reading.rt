@@ -2,12 +2,8 @@
 
 ghost use Rattle.std.specs.Prelude.{◌≡◌, ◌<◌, ◌≤◌, length, IfOk, OnOk};
 ghost use Rattle.text_form.specs.Lines.{lines_of, tail_of};
-<<<<<<< HEAD
-ghost use Rattle.trace.specs.Judging.{Leaves, Reads, error_at};
-ghost use Rattle.trace.specs.StepForm.{AreSteps};
-=======
 ghost use Rattle.trace.specs.Judging.{Leaves, Reads};
->>>>>>> f163d4f9456e710f5cf3ed9787cbbc3625a490fb
+ghost use Rattle.trace.specs.StepForm.{AreSteps};
 ghost use Rattle.trace.specs.StepReading.{empty_reading, in_body, keyword_line, step_line, step_lines, steps_from, steps_of, with_act, with_print};
 
 use crate::code::{Code, TextError};
