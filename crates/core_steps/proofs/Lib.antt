@@ -2,6 +2,7 @@ pub mod Parts
 pub mod Leads
 pub mod Takes
 pub mod Hands
+pub mod Splits
 pub mod Ready
 pub mod Kept
 pub mod Queued
