@@ -245,10 +245,10 @@ can_go s cpu core = record {
 -- ---- what `go` leaves, by its answer
 
 -- what a step answers
-abbrev Answers : Option StepRefused → Result Event StepRefused → Type 0
+abbrev pub Answers : Option StepRefused → Result Event StepRefused → Type 0
 Answers o r = MatchOption o (r ≡ Ok Stepped) (λ e. r ≡ Err e)
 
-result_none : (o : Option StepRefused) (e : Event) → Answers o (Ok e) → o ≡ None
+pub result_none : (o : Option StepRefused) (e : Event) → Answers o (Ok e) → o ≡ None
 result_none None e h = refl
 result_none (Some r) e h = cc
 

@@ -7,3 +7,5 @@ pub mod Ready
 pub mod Kept
 pub mod Queued
 pub mod Fresh
+pub mod Totals
+pub mod Runs

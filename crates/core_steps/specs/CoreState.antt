@@ -1,6 +1,6 @@
 -- The machine with its words, the word state that it stands for, and what holds of it.
 use Rattle.std.specs.List.{AllByRecursion}
-use Rattle.std.specs.Prelude.{◌≡◌, ℕ, ◌+◌, ◌-◌, ◌*◌, ◌<◌, ◌≤◌, ◌≢◌, Bool, true, false, IsTrue, Option, Some, None, List, [], ◌∷◌, ◌++◌, length, slice_index_or, slice_set, replicate, sum_by, slice_index}
+use Rattle.std.specs.Prelude.{◌≡◌, ℕ, ◌+◌, ◌-◌, ◌*◌, ◌<◌, ◌≤◌, ◌≢◌, Bool, true, false, IsTrue, Option, Some, None, List, [], ◌∷◌, ◌++◌, length, slice_index_or, slice_set, replicate, sum_by, slice_index, fold}
 use Rattle.tag_model.specs.declared.shape.Shape.{Shape}
 use Rattle.tag_model.specs.declared.state.Tag.{Tag}
 use Rattle.tag_model.specs.declared.state.Hand.{Hand}
@@ -264,3 +264,13 @@ fresh shape kernel_len = record { shape = shape; kernel_len = kernel_len; machin
 -- the words of a kind of a tag, added over the CPUs, wrapped
 abbrev pub total_of : List (List ℕ) → Kind → ℕ → ℕ
 total_of words kind tag = wrap (sum_by (λ (own : List ℕ). slice_index own (word_place kind tag)) words)
+
+-- the CPU's word of a kind for a tag
+abbrev pub word_at : List (List ℕ) → ℕ → Kind → ℕ → ℕ
+word_at words cpu kind tag = slice_index (words_at words cpu) (word_place kind tag)
+
+-- ---- runs
+
+-- the core after a step of each of these actors, one after another
+abbrev pub run_of : CoreState → List Actor → CoreState
+run_of s actors = fold stepped s actors

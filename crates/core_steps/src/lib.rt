@@ -6,5 +6,6 @@ pub mod machine;
 pub mod op;
 mod pending;
 mod refusal;
+pub mod run;
 mod step;
 mod words;

@@ -1,6 +1,6 @@
 //! The core: every CPU's words, hand and ops, and every place, on plain vectors.
 
-ghost use Rattle.std.specs.Prelude.{◌≡◌, ℕ, ◌*◌, ◌+◌, ◌<◌, ◌≤◌, ◌↔◌, length, replicate, MatchOption, IfOk, OnOk, OnErr, IsErrOf, Some, None, slice_get, slice_index_or, slice_set, List, IsTrue};
+ghost use Rattle.std.specs.Prelude.{[], ◌≡◌, ℕ, ◌*◌, ◌+◌, ◌<◌, ◌≤◌, ◌↔◌, length, replicate, MatchOption, IfOk, OnOk, OnErr, IsErrOf, Some, None, slice_get, slice_index_or, slice_set, List, IsTrue};
 ghost use Rattle.tag_model.specs.Shape.{IsChecked};
 ghost use Rattle.tag_model.specs.StepRules.{Steps};
 ghost use Rattle.tag_model.specs.Laws.{Safe};
@@ -140,7 +140,10 @@ fn step_on(
 }
 
 impl Core {
-    ghost use Rattle.core_steps.specs.CoreState.{CoreState, IsCore, IsActor, IsOp, fresh, queued, ops_of, refused, stepped, word_state, total_of};
+    ghost use Rattle.core_steps.specs.CoreState.{CoreState, IsCore, IsActor, IsOp, fresh, queued, ops_of, refused, stepped, word_state, total_of, word_at};
+    ghost use Rattle.std.specs.Prelude.{sum_by};
+    ghost use Rattle.tag_model.specs.Wrap.{wrap};
+    ghost use Rattle.tag_model.specs.WordState.{counted};
     ghost use Rattle.tag_model.specs.declared.state.Kind.TheVariants.{Bytes, Calls};
 
     /// All words are 0, no key holds anything, and nothing is queued.
@@ -219,11 +222,50 @@ impl Core {
         requires { tag < self.now.shape.tags }
         ensures bytes { result.0 ≡ total_of self.now.words Bytes tag }
         ensures calls { result.1 ≡ total_of self.now.words Calls tag }
+        // They are what is counted under the tag.
+        ensures counted_bytes { result.0 ≡ wrap (sum_by (counted Bytes tag) (word_state self.now)) }
+        ensures counted_calls { result.1 ≡ wrap (sum_by (counted Calls tag) (word_state self.now)) }
     {
         let words = self.words.as_slice();
         (
             total(words, Kind::Bytes, tag),
             total(words, Kind::Calls, tag),
         )
+    }
+
+    /// A CPU's own byte word and call word of the tag.
+    pub fn cpu_word(&self, cpu: u32, tag: u32) -> (u64, u64)
+        requires cpu { cpu < self.now.shape.cpus }
+        requires tag { tag < self.now.shape.tags }
+        ensures bytes { result.0 ≡ word_at self.now.words cpu Bytes tag }
+        ensures calls { result.1 ≡ word_at self.now.words cpu Calls tag }
+    {
+        let own = &self.words[cpu as usize];
+        (own.read(Kind::Bytes, tag), own.read(Kind::Calls, tag))
+    }
+
+    /// Whether the actor has no op queued or under way. A CPU that the shape doesn't have has none.
+    pub fn idle(&self, actor: Actor) -> bool
+        ensures { IsTrue result ↔ (ops_of self.now actor ≡ []) }
+    {
+        match actor {
+            Actor::Cpu(cpu) => self.idle_on(cpu),
+        }
+    }
+
+    fn idle_on(&self, cpu: u32) -> bool
+        ensures { IsTrue result ↔ (ops_of self.now (Actor.Cpu cpu) ≡ []) }
+    {
+        if cpu as usize >= self.waiting.len() {
+            return true;
+        }
+        self.waiting[cpu as usize].is_empty()
+    }
+
+    /// Tells what holds of every core, and does nothing.
+    pub(crate) fn tell(&self)
+        ensures { IsCore self.now }
+    {
+        let _shape = self.shape;
     }
 }
