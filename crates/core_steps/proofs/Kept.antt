@@ -137,7 +137,7 @@ words_kept tags words cpu step hand below each i within = elim (cases_eq i cpu) 
 
 -- ---- a core stays a core
 
-next_at : (s : CoreState) (cpu : ℕ) (op : Op) (ops : List Op) (done : ℕ) → IsCore s → IsReady s.kernel_len s.machine.places (hand_at s.machine cpu) (op ∷ ops) done → (done ≡ 0 → first_refusal s.machine.places s.machine.waiting op ≡ None)
+pub next_at : (s : CoreState) (cpu : ℕ) (op : Op) (ops : List Op) (done : ℕ) → IsCore s → IsReady s.kernel_len s.machine.places (hand_at s.machine cpu) (op ∷ ops) done → (done ≡ 0 → first_refusal s.machine.places s.machine.waiting op ≡ None)
     → Next s.shape s.kernel_len s.machine.places (hand_at s.machine cpu) op ops done
 next_at s cpu op ops done core ready free =
     next s.shape s.kernel_len core.kernel s.machine.places (places_fit s.shape s.machine s.words core.safe) core.machine.places (hand_at s.machine cpu) ops ready.2 s.machine.waiting op done ready.0 ready.1 free
@@ -153,7 +153,7 @@ record Goes (s : CoreState) (cpu : ℕ) (ops : List Op) (done : ℕ) : Type 0 wh
   leads : Leads s.shape (word_state s) (state_of (stepped_by s.machine cpu ops done) (words_stepped s.machine s.words cpu ops done))
   core : IsCore (record s { machine = stepped_by s.machine cpu ops done; words = words_stepped s.machine s.words cpu ops done })
 
-first_passes : (m : Machine) (op : Op) (ops : List Op) (done : ℕ) → refusal_in m (op ∷ ops) done ≡ None → done ≡ 0 → first_refusal m.places m.waiting op ≡ None
+pub first_passes : (m : Machine) (op : Op) (ops : List Op) (done : ℕ) → refusal_in m (op ∷ ops) done ≡ None → done ≡ 0 → first_refusal m.places m.waiting op ≡ None
 first_passes m op ops done none e = let at_start : refusal_in m (op ∷ ops) 0 ≡ None = subst (λ (d : ℕ). refusal_in m (op ∷ ops) d ≡ None) e none in at_start
 
 goes : (s : CoreState) (cpu : ℕ) (ops : List Op) (done : ℕ) → IsCore s → cpu < s.shape.cpus → waiting_at s.machine cpu ≡ record { ops = ops; done = done } → refusal_in s.machine ops done ≡ None → Goes s cpu ops done

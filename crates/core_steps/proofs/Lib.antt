@@ -9,3 +9,6 @@ pub mod Queued
 pub mod Fresh
 pub mod Totals
 pub mod Runs
+pub mod Steps
+pub mod Quiet
+pub mod SplitRun

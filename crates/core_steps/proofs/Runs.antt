@@ -15,10 +15,10 @@ pub record Ran (s : CoreState) (actors : List Actor) (now : CoreState) (n : ℕ)
   pub taken : (i : ℕ) → i < n → IfSome (slice_get actors i) (λ a. refused (run_of s (take i actors)) a ≡ None)
   pub safe : (i : ℕ) → i ≤ n → Safe s.shape (word_state (run_of s (take i actors)))
 
-stepped_shape : (s : CoreState) (a : Actor) → (stepped s a).shape ≡ s.shape
+pub stepped_shape : (s : CoreState) (a : Actor) → (stepped s a).shape ≡ s.shape
 stepped_shape s (actor.Cpu cpu) = refl
 
-run_shape : (s : CoreState) (actors : List Actor) → (run_of s actors).shape ≡ s.shape
+pub run_shape : (s : CoreState) (actors : List Actor) → (run_of s actors).shape ≡ s.shape
 run_shape s [] = refl
 run_shape s (a ∷ actors) = run_shape (stepped s a) actors ∙ stepped_shape s a
 
