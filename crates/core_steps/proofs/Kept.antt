@@ -26,11 +26,11 @@ use Rattle.tag_model.specs.declared.limits.TheConstants.{SIZE_END}
 use Rattle.tag_model.proofs.CpuRows.{safe-begins_allocation, safe-adds_bytes}
 use Rattle.tag_model.proofs.PlaceRow.{safe-writes_place}
 use Rattle.core_steps.specs.declared.op.Op.{Op}
-use Rattle.core_steps.specs.declared.op.Op.TheVariants.{Open, Close, Swap, Trim}
+use Rattle.core_steps.specs.declared.op.Op.TheVariants.{Open, Close, Split, Swap, Trim}
 use Rattle.core_steps.specs.declared.step.WordStep.{WordStep}
 use Rattle.core_steps.specs.declared.op.StepRefused.TheVariants.{NoStep}
 use Rattle.core_steps.specs.declared.op.TheConstants.{KEY_END}
-use Rattle.core_steps.specs.Machine.{Waiting, Machine, nothing_waits, reserves, names_key, held_at, hand_at, waiting_at, kernel_tag, step_of, hand_after, places_after, words_after, advanced, first_refusal, refusal_in, refusal_of, is_reserved, stepped_by, after_step, first_names, step_count, KeysFit, CanTake, machine_of}
+use Rattle.core_steps.specs.Machine.{Waiting, Machine, nothing_waits, reserves, names_key, held_at, hand_at, waiting_at, kernel_tag, step_of, hand_after, places_after, words_after, advanced, first_refusal, refusal_in, refusal_of, is_reserved, stepped_by, after_step, first_names, step_count, KeysFit, HasCall, CanTake, machine_of}
 use Rattle.core_steps.specs.CoreState.{CoreState, IsReady, IsReadyAt, IsMachine, IsCore, IsOpening, IsUnderWay, IsOp, opening_hand, words_at, words_stepped, words_after_step, state_of, word_state, no_modules, cpu_part, cpu_parts, place_parts, CanGo, CanStep, IsOpen}
 use Rattle.core_steps.proofs.Ready.{Next, next, others_ready, free_key}
 use Rattle.core_steps.proofs.Takes.{places_fit, leads_step, hand_seen, can_take, length-places_after, length-words_after}
@@ -137,7 +137,7 @@ words_kept tags words cpu step hand below each i within = elim (cases_eq i cpu) 
 
 -- ---- a core stays a core
 
-next_at : (s : CoreState) (cpu : ℕ) (op : Op) (ops : List Op) (done : ℕ) → IsCore s → IsReady s.kernel_len s.machine.places (hand_at s.machine cpu) (op ∷ ops) done → (done ≡ 0 → first_refusal s.machine.places s.machine.waiting op ≡ None)
+pub next_at : (s : CoreState) (cpu : ℕ) (op : Op) (ops : List Op) (done : ℕ) → IsCore s → IsReady s.kernel_len s.machine.places (hand_at s.machine cpu) (op ∷ ops) done → (done ≡ 0 → first_refusal s.machine.places s.machine.waiting op ≡ None)
     → Next s.shape s.kernel_len s.machine.places (hand_at s.machine cpu) op ops done
 next_at s cpu op ops done core ready free =
     next s.shape s.kernel_len core.kernel s.machine.places (places_fit s.shape s.machine s.words core.safe) core.machine.places (hand_at s.machine cpu) ops ready.2 s.machine.waiting op done ready.0 ready.1 free
@@ -153,7 +153,7 @@ record Goes (s : CoreState) (cpu : ℕ) (ops : List Op) (done : ℕ) : Type 0 wh
   leads : Leads s.shape (word_state s) (state_of (stepped_by s.machine cpu ops done) (words_stepped s.machine s.words cpu ops done))
   core : IsCore (record s { machine = stepped_by s.machine cpu ops done; words = words_stepped s.machine s.words cpu ops done })
 
-first_passes : (m : Machine) (op : Op) (ops : List Op) (done : ℕ) → refusal_in m (op ∷ ops) done ≡ None → done ≡ 0 → first_refusal m.places m.waiting op ≡ None
+pub first_passes : (m : Machine) (op : Op) (ops : List Op) (done : ℕ) → refusal_in m (op ∷ ops) done ≡ None → done ≡ 0 → first_refusal m.places m.waiting op ≡ None
 first_passes m op ops done none e = let at_start : refusal_in m (op ∷ ops) 0 ≡ None = subst (λ (d : ℕ). refusal_in m (op ∷ ops) d ≡ None) e none in at_start
 
 goes : (s : CoreState) (cpu : ℕ) (ops : List Op) (done : ℕ) → IsCore s → cpu < s.shape.cpus → waiting_at s.machine cpu ≡ record { ops = ops; done = done } → refusal_in s.machine ops done ≡ None → Goes s cpu ops done
@@ -194,18 +194,21 @@ gone s cpu core none = elim (cases_lt cpu s.shape.cpus) [
 done_below : (places : List Held) (hand : Option Hand) (op : Op) (done : ℕ) → IsUnderWay places hand op done → done < step_count op
 done_below places hand (Open key section index size) done under = under.within
 done_below places hand (Close key) done under = under.within
+done_below places hand (Split key parts first) done under = under.within
 done_below places hand (Swap one two) done under = under.within
 done_below places hand (Trim key bytes) done under = under.within
 
 keys_fit : (kernel_len : ℕ) (op : Op) → IsOp kernel_len op → KeysFit op
 keys_fit n (Open key section index size) is = is.key_below
 keys_fit n (Close key) is = is.key_below
+keys_fit n (Split key parts first) is = let two = is.two_parts in (is.key_below, omega arith, omega (arith, is.last_below))
 keys_fit n (Swap one two) is = (is.first.key_below, is.second.key_below)
 keys_fit n (Trim key bytes) is = is.key_below
 
 can_take_first : (kernel_len words : ℕ) (hand : Option Hand) (places : List Held) (op : Op) → IsOp kernel_len op → length places ≡ KEY_END → 2 * kernel_len ≤ words → CanTake (step_of op 0 hand places) hand words (length places)
 can_take_first n words hand places (Open key section index size) is len kernel = omega (arith, is.in_section)
 can_take_first n words hand places (Close key) is len kernel = omega (arith, is.key_below)
+can_take_first n words hand places (Split key parts first) is len kernel = omega (arith, is.key_below)
 can_take_first n words hand places (Swap one two) is len kernel = omega (arith, is.first.key_below)
 can_take_first n words hand places (Trim key bytes) is len kernel = omega (arith, is.key_below)
 
@@ -221,10 +224,14 @@ can_take_next s cpu op ops done core below ready = elim (cases_eq done 0) [
       n.ruled
 ]
 
+has_call : (s : CoreState) (cpu : ℕ) → IsCore s → cpu < s.shape.cpus → (hand : Option Hand) → hand_at s.machine cpu ≡ hand → HasCall hand
+has_call s cpu core below None is = tt
+has_call s cpu core below (Some h) is = (hand_seen s.shape s.machine s.words cpu h core.shape (core.machine.hands ∙ sym core.words) (omega (arith, core.machine.hands)) core.safe is).fits.some
+
 can_step : (s : CoreState) (cpu : ℕ) (ops : List Op) (done : ℕ) → IsCore s → cpu < s.shape.cpus → IsReady s.kernel_len s.machine.places (hand_at s.machine cpu) ops done → CanStep s.machine s.words cpu ops done
 can_step s cpu [] done core below ready = tt
 can_step s cpu (op ∷ ops) done core below ready =
-    (keys_fit s.kernel_len op ready.1, done_below s.machine.places (hand_at s.machine cpu) op done ready.0, can_take_next s cpu op ops done core below ready)
+    (keys_fit s.kernel_len op ready.1, done_below s.machine.places (hand_at s.machine cpu) op done ready.0, has_call s cpu core below (hand_at s.machine cpu) refl, can_take_next s cpu op ops done core below ready)
 
 pub can_go : (s : CoreState) (cpu : ℕ) → IsCore s → CanGo s.machine s.words cpu
 can_go s cpu core = record {
@@ -241,7 +248,7 @@ can_go s cpu core = record {
 abbrev pub Answers : Option StepRefused → Result Event StepRefused → Type 0
 Answers o r = MatchOption o (r ≡ Ok Stepped) (λ e. r ≡ Err e)
 
-result_none : (o : Option StepRefused) (e : Event) → Answers o (Ok e) → o ≡ None
+pub result_none : (o : Option StepRefused) (e : Event) → Answers o (Ok e) → o ≡ None
 result_none None e h = refl
 result_none (Some r) e h = cc
 

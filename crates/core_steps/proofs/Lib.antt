@@ -2,6 +2,7 @@ pub mod Parts
 pub mod Leads
 pub mod Takes
 pub mod Hands
+pub mod Splits
 pub mod Ready
 pub mod Kept
 pub mod Queued
@@ -9,3 +10,8 @@ pub mod Left
 pub mod MovedWords
 pub mod Meaning
 pub mod Fresh
+pub mod Totals
+pub mod Runs
+pub mod Steps
+pub mod Quiet
+pub mod SplitRun

@@ -74,7 +74,7 @@ moved_in : (cpus tags : ℕ) (moves : List Move) (m : Machine) (cpu : ℕ) (ops 
     → CanStep m (words_moved cpus tags moves) cpu ops done → words_moved cpus tags (moves ++ moves_in m cpu ops done) ≡ words_stepped m (words_moved cpus tags moves) cpu ops done
 moved_in cpus tags moves m cpu [] done below len can = rw append-nil refl
 moved_in cpus tags moves m cpu (op ∷ ops) done below len can =
-    moved_step cpus tags moves cpu below (step_of op done (hand_at m cpu) m.places) (hand_at m cpu) (length m.places) (subst (λ (n : ℕ). CanTake (step_of op done (hand_at m cpu) m.places) (hand_at m cpu) n (length m.places)) len can.2)
+    moved_step cpus tags moves cpu below (step_of op done (hand_at m cpu) m.places) (hand_at m cpu) (length m.places) (subst (λ (n : ℕ). CanTake (step_of op done (hand_at m cpu) m.places) (hand_at m cpu) n (length m.places)) len can.3)
 
 -- a step of the CPU, with its moves
 pub core_of_step : (shape : Shape) (kernel_len : ℕ) (m : Machine) (moves : List Move) (cpu : ℕ) → IsCore (core_of shape kernel_len m moves) → cpu < shape.cpus

@@ -12,13 +12,18 @@ use Rattle.tag_model.specs.declared.state.Held.TheVariants as held
 use Rattle.tag_model.specs.Reference.{held_fits, hand_counts_of, held_counts_of}
 use Rattle.tag_model.specs.declared.limits.TheConstants.{SIZE_END}
 use Rattle.core_steps.specs.declared.op.Op.{Op}
-use Rattle.core_steps.specs.declared.op.Op.TheVariants.{Open, Close, Swap, Trim}
+use Rattle.core_steps.specs.declared.op.Op.TheVariants.{Open, Close, Split, Swap, Trim}
 use Rattle.core_steps.specs.declared.op.StepRefused.{StepRefused}
 use Rattle.core_steps.specs.declared.op.StepRefused.TheVariants.{KeyUsed, NotLive, TooSmall}
 use Rattle.core_steps.specs.declared.op.TheConstants.{KEY_END}
-use Rattle.core_steps.specs.Machine.{Waiting, reserves, names_key, held_at, kernel_tag, step_of, hand_after, places_after, advanced, first_refusal, is_reserved, is_live, is_used, is_counted, holds_nothing, size_of, in_hand, put_down, bytes_in, with_bytes, less_bytes, step_count}
-use Rattle.core_steps.specs.CoreState.{IsReady, IsOpening, IsClosing, IsSwapping, IsTrimming, IsUnderWay, IsOp, IsOpen, IsKey, IsSwap, IsTrim, HoldsReference, HoldsCall, opening_hand}
-use Rattle.core_steps.proofs.Takes.{IsRuled, CanWrite, PlacesFit}
+use Rattle.core_steps.specs.Machine.{Waiting, reserves, names_key, held_at, kernel_tag, part_key, is_new_key, clear_step, with_call, step_of, hand_after, places_after, advanced, first_refusal, is_reserved, is_live, is_used, is_counted, holds_nothing, size_of, in_hand, put_down, bytes_in, with_bytes, less_bytes, step_count}
+use Rattle.core_steps.specs.CoreState.{IsReady, IsOpening, IsClosing, IsSplitting, IsSwapping, IsTrimming, IsUnderWay, IsOp, IsOpen, IsKey, IsSplit, IsSwap, IsTrim, HoldsReference, HoldsCall, HoldsParts, settled_hand, opening_hand}
+use Rattle.core_steps.proofs.Takes.{IsRuled, CanWrite, PlacesFit, InHand, CanAddCall}
+use Rattle.core_steps.proofs.Splits.{names_part, parts_apart, part_below, part_later, new_key_means, split_passes, SplitPasses, unused_key, first_parts, rest_hand, share_written, can_share, rest_holds, rest_none}
+use Rattle.std.proofs.lemmas.Bool.{cases_eq, cases_lt}
+use Rattle.core_steps.specs.declared.step.WordStep.{WordStep}
+use Rattle.core_steps.specs.declared.step.WordStep.TheVariants.{AddCall, Write}
+use Rattle.std.proofs.Common.{◌-◌, ◌*◌, ◌%◌}
 use Rattle.core_steps.proofs.Hands.{taken, can_clear, can_exchange, can_put, can_lower, lowered_all, lowered_some, can_end, bytes_taken, passes}
 
 -- a number below 3, by cases
@@ -58,6 +63,17 @@ others_ready n places next hand (Open key section index size ∷ ops) done r kee
   r.2,
 )
 others_ready n places next hand (Close key ∷ ops) done r keeps = r
+others_ready n places next hand (Split key parts first ∷ ops) done r keeps = (
+  record {
+    within = r.0.within;
+    start = r.0.start;
+    counting = r.0.counting;
+    writing = r.0.writing;
+    empty = λ part some later within. keeps (part_key key first part) (reserved (part_key key first part) done (Split key parts first) ops some (names_part key parts first part within)) ∙ r.0.empty part some later within;
+  },
+  r.1,
+  r.2,
+)
 others_ready n places next hand (Swap one two ∷ ops) done r keeps = (
   record {
     within = r.0.within;
@@ -89,6 +105,8 @@ ready_first n places (Open key section index size ∷ ops) all =
     (record { within = omega arith; start = λ _. refl; begun = λ e. absurd (omega arith); counted = λ e. absurd (omega arith); place = λ h. absurd (omega arith) }, all.0, all.1)
 ready_first n places (Close key ∷ ops) all =
     (record { within = omega arith; start = λ _. refl; cleared = λ e. absurd (omega arith); lowered = λ e. absurd (omega arith) }, all.0, all.1)
+ready_first n places (Split key parts first ∷ ops) all =
+    (record { within = let two = all.0.two_parts in omega arith; start = λ _. refl; counting = λ some. absurd (omega arith); writing = λ past. let two = all.0.two_parts in absurd (omega arith); empty = λ part some. absurd (omega arith) }, all.0, all.1)
 ready_first n places (Swap one two ∷ ops) all =
     (record { within = omega arith; start = λ _. refl; in_hand = λ h. absurd (omega arith); first = λ h. absurd (omega arith); second = λ e. absurd (omega arith) }, all.0, all.1)
 ready_first n places (Trim key bytes ∷ ops) all =
@@ -109,6 +127,12 @@ pub free_key : (places : List Held) (waiting : List Waiting) (op : Op) (key : �
 free_key places waiting (Open named section index size) key none names =
     let same : named ≡ key = grind (arith, nat_tests) in subst (λ (k : ℕ). is_reserved k waiting ≡ false) same (grind (arith, nat_tests))
 free_key places waiting (Close named) key none names = live_free places waiting named key (passes _ _ _ none).0 names
+free_key places waiting (Split named parts first) key none names =
+    let p = split_passes places waiting named parts first none in
+    elim (or_cases (named == key) (is_new_key key parts first) names) [
+      | inl e ↦ live_free places waiting named key p.live e
+      | inr e ↦ let range = new_key_means key parts first e in (unused_key places waiting key (p.unused key range.0 range.1)).1
+    ]
 free_key places waiting (Swap one two) key none names = elim (or_cases (one == key) (two == key) names) [
   | inl e ↦ live_free places waiting one key (passes _ _ _ none).0 e
   | inr e ↦ live_free places waiting two key (passes _ _ _ (passes _ _ _ none).1).0 e
@@ -193,6 +217,126 @@ module _ (k : Shape) (kernel_len : ℕ) (kernel : kernel_len ≤ k.kernel_tags) 
         kept = λ other ne. refl;
       })
       under
+
+  -- a step that is known, and what the CPU then waits for
+  by_step : (op : Op) (done : ℕ) (step : WordStep) (w : Waiting) → step_of op done hand places ≡ step → advanced (op ∷ ops) done ≡ w
+      → IsRuled k step hand places → IsReady kernel_len (places_after step places) (hand_after step hand) w.ops w.done
+      → ((key : ℕ) → names_key key op ≡ false → held_at (places_after step places) key ≡ held_at places key) → Next k kernel_len places hand op ops done
+  by_step op done step w is then ruled ready kept = record {
+    ruled = subst (λ (s : WordStep). IsRuled k s hand places) (sym is) ruled;
+    ready = subst (λ (v : Waiting). IsReady kernel_len (places_after (step_of op done hand places) places) (hand_after (step_of op done hand places) hand) v.ops v.done) (sym then)
+        (subst (λ (s : WordStep). IsReady kernel_len (places_after s places) (hand_after s hand) w.ops w.done) (sym is) ready);
+    kept = λ key other. subst (λ (s : WordStep). held_at (places_after s places) key ≡ held_at places key) (sym is) (kept key other);
+  }
+
+  module _ (key parts first done : ℕ) (is : IsSplit key parts first) (o : IsSplitting places hand key parts first done) where
+    op : Op
+    op = Split key parts first
+
+    goes_on : done + 1 < 2 * parts → advanced (Split key parts first ∷ ops) done ≡ record { ops = Split key parts first ∷ ops; done = done + 1 }
+    goes_on more = let t : (done + 1 == 2 * parts) ≡ false = grind (arith, nat_tests) in rw t refl
+
+    ends : done + 1 ≡ 2 * parts → advanced (Split key parts first ∷ ops) done ≡ record { ops = ops; done = 0 }
+    ends last = let t : (done + 1 == 2 * parts) ≡ true = grind (arith, nat_tests) in rw t refl
+
+    -- the key is cleared
+    split_clears : done ≡ 0 → is_counted (held_at places key) ≡ true → size_of (held_at places key) % parts ≡ 0 → ((part : ℕ) → part ≢ 0 → part < parts → held_at places (part_key key first part) ≡ held.None)
+        → Next k kernel_len places hand (Split key parts first) ops done
+    split_clears e live even free =
+        let two = is.two_parts in
+        by_step (Split key parts first) done (clear_step key places) (record { ops = Split key parts first ∷ ops; done = done + 1 })
+        (let t : (done == 0) ≡ true = grind (arith, nat_tests) in rw t refl) (goes_on (omega arith))
+        (omega (arith, is.key_below), can_clear hand (held_at places key) (o.start e) (fit key)) (
+          record {
+            within = omega arith;
+            start = λ z. absurd (omega arith);
+            counting = λ some few. let one : 1 ≡ done + 1 = omega arith in subst (λ (n : ℕ). HoldsParts (in_hand (held_at places key)) parts n) one (first_parts (held_at places key) parts (fit key) live (omega arith) even);
+            writing = λ past. absurd (omega arith);
+            empty = λ part some later within. elim (cases_eq part 0) [
+              | inl z ↦ rw z (get_or-set_same places key held.None held.None (omega (arith, is.key_below)))
+              | inr ne ↦ get_or-set_other places key (part_key key first part) held.None held.None (parts_apart key parts first 0 part is.apart (omega arith) within) ∙ free part ne within
+            ];
+          },
+          is,
+          queued,
+        )
+        (λ other ne. kept_at places key other held.None (neither (key == other) (is_new_key other parts first) ne).0)
+
+    -- a call is added
+    split_adds : 0 < done → done < parts → Next k kernel_len places hand (Split key parts first) ops done
+    split_adds some more =
+        let r = o.counting some (omega arith) in
+        let few = is.few_parts in
+        by_step (Split key parts first) done AddCall (record { ops = Split key parts first ∷ ops; done = done + 1 })
+        (let t : (done == 0) ≡ false = grind (arith, nat_tests) in let l : nat_lt done parts ≡ true = grind (arith, nat_tests) in rw (t, l) refl) (goes_on (omega arith))
+        (record {
+          h = record { tag = r.tag; bytes = parts * r.size; calls = done; opening = false };
+          held = r.held;
+          holds = record { settled = refl; counted = some_product parts r.size (omega arith) r.some; room = omega arith };
+        }) (
+          record {
+            within = omega arith;
+            start = λ z. absurd (omega arith);
+            counting = λ _ _. added r;
+            writing = λ past. let left : 2 * parts - (done + 1) ≡ parts = omega arith in let all : done + 1 ≡ parts = omega arith in
+                rw left (subst (λ (n : ℕ). HoldsParts (with_call hand) parts n) all (added r));
+            empty = λ part _ later within. o.empty part some (omega arith) within;
+          },
+          is,
+          queued,
+        )
+        (λ other ne. refl)
+      where
+        some_product : (n m : ℕ) → 0 < n → 0 < m → 0 < n * m
+        some_product n m a b = grind arith
+
+        added : HoldsParts hand parts done → HoldsParts (with_call hand) parts (done + 1)
+        added r = record { tag = r.tag; size = r.size; some = r.some; fits = r.fits; held = ap with_call r.held }
+
+    -- a part is written
+    split_writes : parts ≤ done → Next k kernel_len places hand (Split key parts first) ops done
+    split_writes past =
+        let two = is.two_parts in let few = is.few_parts in let within = o.within in
+        let left = 2 * parts - done in
+        let part = done - parts in
+        let r = o.writing past in
+        let small : part < parts = omega arith in
+        let here = o.empty part (omega arith) (omega arith) small in
+        let there : part_key key first part < length places = let b = part_below key parts first part is small in omega arith in
+        let write = Write (part_key key first part) (held.Counted r.tag r.size) (rest_hand r.tag r.size left) in
+        let step : step_of (Split key parts first) done hand places ≡ write =
+        let t : (done == 0) ≡ false = grind (arith, nat_tests) in let l : nat_lt done parts ≡ false = grind (arith, nat_tests) in rw (t, l) (share_written (part_key key first part) left hand r (omega arith)) in
+        let ruled : IsRuled k write hand places = (there, can_share left hand (held_at places (part_key key first part)) r (omega arith) (omega arith) here) in
+        let kept : (other : ℕ) → names_key other (Split key parts first) ≡ false → held_at (set places (part_key key first part) (held.Counted r.tag r.size)) other ≡ held_at places other =
+        λ other ne. get_or-set_other places (part_key key first part) other (held.Counted r.tag r.size) held.None
+        (λ same. let named = subst (λ (n : ℕ). names_key n (Split key parts first) ≡ true) (sym same) (names_part key parts first part small) in cc) in
+        elim (cases_eq left 1) [
+          | inl e ↦ by_step (Split key parts first) done write (record { ops = ops; done = 0 }) step (ends (omega arith)) ruled
+              (rw (rest_none r.tag r.size left e) (ready_first kernel_len (set places (part_key key first part) (held.Counted r.tag r.size)) ops queued)) kept
+          | inr ne ↦ by_step (Split key parts first) done write (record { ops = Split key parts first ∷ ops; done = done + 1 }) step (goes_on (omega arith)) ruled (
+            record {
+              within = omega arith;
+              start = λ z. absurd (omega arith);
+              counting = λ _ fewer. absurd (omega arith);
+              writing = λ _. let rest : left - 1 ≡ 2 * parts - (done + 1) = omega arith in subst (λ (n : ℕ). HoldsParts (rest_hand r.tag r.size left) n n) rest (rest_holds left hand r ne);
+              empty = λ next _ later below. get_or-set_other places (part_key key first part) (part_key key first next) (held.Counted r.tag r.size) held.None
+                  (parts_apart key parts first part next is.apart (omega arith) below) ∙ o.empty next (omega arith) (omega arith) below;
+            },
+            is,
+            queued,
+          ) kept
+        ]
+
+  next_split : (waiting : List Waiting) (key parts first done : ℕ) → IsSplit key parts first → IsSplitting places hand key parts first done → (done ≡ 0 → SplitPasses places waiting key parts first)
+      → Next k kernel_len places hand (Split key parts first) ops done
+  next_split waiting key parts first done is o passes = elim (cases_eq done 0) [
+    | inl e ↦ let p = passes e in split_clears key parts first done is o e (live_counted places waiting key p.live) p.even
+        (λ part ne within. let at = part_later key first part ne in rw at (unused_key places waiting (first + (part - 1)) (p.unused (first + (part - 1)) (omega arith) (omega arith))).0)
+    | inr ne ↦ elim (cases_lt done parts) [
+      | inl more ↦ split_adds key parts first done is o (omega arith) more
+      | inr past ↦ split_writes key parts first done is o past
+    ]
+  ]
 
   next_swap : (one two done : ℕ) → IsSwap one two → IsSwapping places hand one two done → (done ≡ 0 → (is_counted (held_at places one) ≡ true) × (is_counted (held_at places two) ≡ true))
       → Next k kernel_len places hand (Swap one two) ops done
@@ -282,6 +426,7 @@ module _ (k : Shape) (kernel_len : ℕ) (kernel : kernel_len ≤ k.kernel_tags) 
   pub next : (waiting : List Waiting) (op : Op) (done : ℕ) → IsUnderWay places hand op done → IsOp kernel_len op → (done ≡ 0 → first_refusal places waiting op ≡ None) → Next k kernel_len places hand op ops done
   next waiting (Open key section index size) done under is free = next_open key section index size done is under (λ e. free_place places waiting key section index size (free e))
   next waiting (Close key) done under is free = next_close key done is under (λ e. live_counted places waiting key (passes _ _ _ (free e)).0)
+  next waiting (Split key parts first) done under is free = next_split waiting key parts first done is under (λ e. split_passes places waiting key parts first (free e))
   next waiting (Swap one two) done under is free = next_swap one two done is under
       (λ e. let first = passes _ _ _ (free e) in (live_counted places waiting one first.0, live_counted places waiting two (passes _ _ _ first.1).0))
   next waiting (Trim key bytes) done under is free = next_trim key bytes done is under

@@ -1,6 +1,6 @@
 -- The machine with its words, the word state that it stands for, and what holds of it.
 use Rattle.std.specs.List.{AllByRecursion}
-use Rattle.std.specs.Prelude.{◌≡◌, ℕ, ◌+◌, ◌*◌, ◌<◌, ◌≤◌, ◌≢◌, Bool, true, false, IsTrue, Option, Some, None, List, [], ◌∷◌, ◌++◌, length, slice_index_or, slice_set, replicate, sum_by, slice_index}
+use Rattle.std.specs.Prelude.{◌≡◌, ℕ, ◌+◌, ◌-◌, ◌*◌, ◌<◌, ◌≤◌, ◌≢◌, Bool, true, false, IsTrue, Option, Some, None, List, [], ◌∷◌, ◌++◌, length, slice_index_or, slice_set, replicate, sum_by, slice_index, fold}
 use Rattle.tag_model.specs.declared.shape.Shape.{Shape}
 use Rattle.tag_model.specs.declared.state.Tag.{Tag}
 use Rattle.tag_model.specs.declared.state.Hand.{Hand}
@@ -18,12 +18,12 @@ use Rattle.tag_model.specs.Wrap.{wrap}
 use Rattle.tag_model.specs.WordState.{word_place}
 use Rattle.tag_model.specs.Laws.{Safe}
 use Rattle.core_steps.specs.declared.op.Op.{Op}
-use Rattle.core_steps.specs.declared.op.Op.TheVariants.{Open, Close, Swap, Trim}
+use Rattle.core_steps.specs.declared.op.Op.TheVariants.{Open, Close, Split, Swap, Trim}
 use Rattle.core_steps.specs.declared.op.Actor.{Actor}
 use Rattle.core_steps.specs.declared.op.Actor.TheVariants as actor
 use Rattle.core_steps.specs.declared.op.StepRefused.{StepRefused}
-use Rattle.core_steps.specs.declared.op.TheConstants.{KEY_END}
-use Rattle.core_steps.specs.Machine.{Waiting, Machine, nothing_waits, hand_at, held_at, waiting_at, kernel_tag, reserves, is_counted, bytes_in, refusal_of, after_step, words_after, step_of, step_count, KeysFit, CanTake}
+use Rattle.core_steps.specs.declared.op.TheConstants.{KEY_END, MAX_PARTS}
+use Rattle.core_steps.specs.Machine.{Waiting, Machine, nothing_waits, hand_at, held_at, waiting_at, kernel_tag, reserves, is_counted, bytes_in, refusal_of, after_step, words_after, step_of, step_count, KeysFit, HasCall, CanTake, part_key, is_new_key}
 
 pub record CoreState : Type 0 where
   pub shape : Shape
@@ -80,7 +80,7 @@ stepped s (actor.Cpu cpu) = record s { machine = after_step s.machine cpu; words
 abbrev pub CanStep : Machine → List (List ℕ) → ℕ → List Op → ℕ → Type 0
 CanStep m words cpu [] done = Unit {0}
 CanStep m words cpu (op ∷ ops) done =
-    KeysFit op × (done < step_count op) × CanTake (step_of op done (hand_at m cpu) m.places) (hand_at m cpu) (length (words_at words cpu)) (length m.places)
+    KeysFit op × (done < step_count op) × HasCall (hand_at m cpu) × CanTake (step_of op done (hand_at m cpu) m.places) (hand_at m cpu) (length (words_at words cpu)) (length m.places)
 
 -- what the CPU's next step reads and writes is there
 pub record CanGo (m : Machine) (all : List (List ℕ)) (cpu : ℕ) : Type 0 where
@@ -104,6 +104,16 @@ pub record IsKey (key : ℕ) : Type 0 where
   pub some_key : 0 < key
   pub key_below : key < KEY_END
 
+-- a split's last new key is one, and none of them is the key that is split
+pub record IsSplit (key parts first : ℕ) : Type 0 where
+  pub some_key : 0 < key
+  pub key_below : key < KEY_END
+  pub two_parts : 2 ≤ parts
+  pub few_parts : parts ≤ MAX_PARTS
+  pub some_first : 0 < first
+  pub last_below : first + parts - 2 < KEY_END
+  pub apart : is_new_key key parts first ≡ false
+
 -- a swap is of two keys
 pub record IsSwap (one two : ℕ) : Type 0 where
   pub first : IsKey one
@@ -119,6 +129,7 @@ pub record IsTrim (key bytes : ℕ) : Type 0 where
 abbrev pub IsOp : ℕ → Op → Type 0
 IsOp kernel_len (Open key section index size) = IsOpen kernel_len key section index size
 IsOp kernel_len (Close key) = IsKey key
+IsOp kernel_len (Split key parts first) = IsSplit key parts first
 IsOp kernel_len (Swap one two) = IsSwap one two
 IsOp kernel_len (Trim key bytes) = IsTrim key bytes
 
@@ -173,6 +184,22 @@ pub record IsClosing (hand : Option Hand) (done : ℕ) : Type 0 where
   pub cleared : done ≡ 1 → HoldsReference hand
   pub lowered : done ≡ 2 → HoldsCall hand
 
+-- in hand are so many parts of a size, and so many calls
+pub record HoldsParts (hand : Option Hand) (parts calls : ℕ) : Type 0 where
+  pub tag : Tag
+  pub size : ℕ
+  pub some : 0 < size
+  pub fits : parts * size < SIZE_END
+  pub held : hand ≡ settled_hand tag (parts * size) calls
+
+-- a split under way has all parts in hand while it adds their calls, and then those that it hasn't written yet, whose places are empty
+pub record IsSplitting (places : List Held) (hand : Option Hand) (key parts first done : ℕ) : Type 0 where
+  pub within : done < 2 * parts
+  pub start : done ≡ 0 → hand ≡ None
+  pub counting : 0 < done → done ≤ parts → HoldsParts hand parts done
+  pub writing : parts ≤ done → HoldsParts hand (2 * parts - done) (2 * parts - done)
+  pub empty : (part : ℕ) → 0 < done → done ≤ parts + part → part < parts → held_at places (part_key key first part) ≡ held.None
+
 -- a swap under way has one of the references in hand; the first place is empty, and the second holds the other until it is exchanged
 pub record IsSwapping (places : List Held) (hand : Option Hand) (one two done : ℕ) : Type 0 where
   pub within : done < 3
@@ -193,6 +220,7 @@ pub record IsTrimming (places : List Held) (hand : Option Hand) (key bytes done 
 abbrev pub IsUnderWay : List Held → Option Hand → Op → ℕ → Type 0
 IsUnderWay places hand (Open key section index size) done = IsOpening places hand key (kernel_tag index) size done
 IsUnderWay places hand (Close key) done = IsClosing hand done
+IsUnderWay places hand (Split key parts first) done = IsSplitting places hand key parts first done
 IsUnderWay places hand (Swap one two) done = IsSwapping places hand one two done
 IsUnderWay places hand (Trim key bytes) done = IsTrimming places hand key bytes done
 
@@ -236,3 +264,13 @@ fresh shape kernel_len = record { shape = shape; kernel_len = kernel_len; machin
 -- the words of a kind of a tag, added over the CPUs, wrapped
 abbrev pub total_of : List (List ℕ) → Kind → ℕ → ℕ
 total_of words kind tag = wrap (sum_by (λ (own : List ℕ). slice_index own (word_place kind tag)) words)
+
+-- the CPU's word of a kind for a tag
+abbrev pub word_at : List (List ℕ) → ℕ → Kind → ℕ → ℕ
+word_at words cpu kind tag = slice_index (words_at words cpu) (word_place kind tag)
+
+-- ---- runs
+
+-- the core after a step of each of these actors, one after another
+abbrev pub run_of : CoreState → List Actor → CoreState
+run_of s actors = fold stepped s actors

@@ -2,3 +2,4 @@ pub mod Machine
 pub mod CoreState
 pub mod Moved
 pub mod StepsLeft
+pub mod Laws

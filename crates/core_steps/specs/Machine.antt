@@ -1,6 +1,6 @@
 -- The machine without its words: hands by CPU, places by key, and the ops of each CPU.
-use Rattle.std.specs.Prelude.{◌≡◌, ◌≢◌, ℕ, ◌+◌, ◌-◌, ◌*◌, ◌<◌, ◌≤◌, ◌==◌, ◌&&◌, ◌||◌, not, nat_lt, Bool, true, false, IsTrue, if◌then◌else◌, Option, Some, None, List, [], ◌∷◌, ◌++◌, length, slice_index, slice_set, slice_index_or, replicate}
-use Rattle.std.specs.List.{list_any}
+use Rattle.std.specs.Prelude.{◌≡◌, ◌≢◌, ℕ, ◌+◌, ◌-◌, ◌*◌, ◌<◌, ◌≤◌, ◌==◌, ◌&&◌, ◌||◌, not, nat_lt, nat_le, ◌/◌, ◌%◌, find, Bool, true, false, IsTrue, if◌then◌else◌, Option, Some, None, List, [], ◌∷◌, ◌++◌, length, slice_index, slice_set, slice_index_or, replicate}
+use Rattle.std.specs.List.{list_any, range_with_len}
 use Rattle.tag_model.specs.declared.shape.Shape.{Shape}
 use Rattle.tag_model.specs.declared.state.Tag.{Tag}
 use Rattle.tag_model.specs.declared.state.Hand.{Hand}
@@ -12,11 +12,11 @@ use Rattle.tag_model.specs.declared.limits.TheConstants.{SIZE_END, MAX_HAND_CALL
 use Rattle.tag_model.specs.Moves.{Move}
 use Rattle.tag_model.specs.StepRules.{raised, lowered, without_call}
 use Rattle.core_steps.specs.declared.op.Op.{Op}
-use Rattle.core_steps.specs.declared.op.Op.TheVariants.{Open, Close, Swap, Trim}
+use Rattle.core_steps.specs.declared.op.Op.TheVariants.{Open, Close, Split, Swap, Trim}
 use Rattle.core_steps.specs.declared.op.Actor.{Actor}
 use Rattle.core_steps.specs.declared.op.Actor.TheVariants as actor
 use Rattle.core_steps.specs.declared.op.StepRefused.{StepRefused}
-use Rattle.core_steps.specs.declared.op.StepRefused.TheVariants.{NoStep, NotLive, KeyUsed, TooSmall}
+use Rattle.core_steps.specs.declared.op.StepRefused.TheVariants.{NoStep, NotLive, KeyUsed, Uneven, TooSmall}
 use Rattle.core_steps.specs.declared.op.TheConstants.{KEY_END}
 use Rattle.core_steps.specs.declared.step.WordStep.{WordStep}
 use Rattle.core_steps.specs.declared.step.WordStep.TheVariants.{BeginAllocation, AddBytes, AddCall, SubtractBytes, SubtractCall, Write}
@@ -78,6 +78,27 @@ size_of held.None = 0
 size_of held.Empty = 0
 size_of (held.Counted tag size) = size
 
+-- an equal share of what is in hand: its bytes over its calls
+abbrev pub share_of : Hand → ℕ
+share_of h = h.bytes / h.calls
+
+-- what is in hand without a share: so many bytes and a call less, none where that was the last call
+abbrev pub rest_of : Hand → ℕ → Option Hand
+rest_of h share = without_call (record h { bytes = h.bytes - share })
+
+-- ---- keys of a split
+
+-- the first part of a split keeps its key, the others have FIRST, FIRST + 1 and so on
+abbrev pub part_key : ℕ → ℕ → ℕ → ℕ
+part_key key first part = if part == 0 then key else first + (part - 1)
+
+-- the key is one of the new ones
+abbrev pub is_new_key : ℕ → ℕ → ℕ → Bool
+is_new_key key parts first = nat_le first key && nat_lt (key + 1) (first + parts)
+
+abbrev pub new_keys : ℕ → ℕ → List ℕ
+new_keys parts first = range_with_len first (parts - 1)
+
 -- ---- the table of steps
 
 -- kernel tag i has tag number i
@@ -92,10 +113,16 @@ clear_step key places = Write key held.None (in_hand (held_at places key))
 abbrev pub put_step : ℕ → Option Hand → WordStep
 put_step key hand = Write key (put_down hand) None
 
+-- write-cell writes an equal share of what is in hand into the place, and keeps the rest
+abbrev pub share_step : ℕ → Option Hand → WordStep
+share_step key None = Write key held.None None
+share_step key (Some h) = Write key (held.Counted h.tag (share_of h)) (rest_of h (share_of h))
+
 -- how many steps an op takes
 abbrev pub step_count : Op → ℕ
 step_count (Open key section index size) = 3
 step_count (Close key) = 3
+step_count (Split key parts first) = 2 * parts
 step_count (Swap one two) = 3
 step_count (Trim key bytes) = 3
 
@@ -112,6 +139,13 @@ close_step key done hand places =
     if done == 0 then clear_step key places
     else (if done == 1 then SubtractBytes (bytes_in hand)
     else SubtractCall)
+
+-- a split into k parts: write-cell clears the cell, add-call k - 1 times, write-cell writes a share under each part's key
+abbrev pub split_step : ℕ → ℕ → ℕ → ℕ → Option Hand → List Held → WordStep
+split_step key parts first done hand places =
+    if done == 0 then clear_step key places
+    else (if nat_lt done parts then AddCall
+    else share_step (part_key key first (done - parts)) hand)
 
 -- a swap: write-cell clears the first cell, writes its reference into the second and takes the second's in hand, and writes that into the first
 abbrev pub swap_step : ℕ → ℕ → ℕ → Option Hand → List Held → WordStep
@@ -131,6 +165,7 @@ trim_step key bytes done hand places =
 abbrev pub step_of : Op → ℕ → Option Hand → List Held → WordStep
 step_of (Open key section index size) done hand places = open_step key index size done
 step_of (Close key) done hand places = close_step key done hand places
+step_of (Split key parts first) done hand places = split_step key parts first done hand places
 step_of (Swap one two) done hand places = swap_step one two done hand places
 step_of (Trim key bytes) done hand places = trim_step key bytes done hand places
 
@@ -138,6 +173,7 @@ step_of (Trim key bytes) done hand places = trim_step key bytes done hand places
 abbrev pub names_key : ℕ → Op → Bool
 names_key key (Open named section index size) = named == key
 names_key key (Close named) = named == key
+names_key key (Split named parts first) = (named == key) || is_new_key key parts first
 names_key key (Swap one two) = (one == key) || (two == key)
 names_key key (Trim named bytes) = named == key
 
@@ -168,6 +204,21 @@ open_refusal places waiting key = if is_used places waiting key then Some (KeyUs
 abbrev pub close_refusal : List Held → List Waiting → ℕ → Option StepRefused
 close_refusal places waiting key = if not (is_live places waiting key) then Some (NotLive key) else None
 
+-- the lowest new key of a split that is used
+abbrev pub used_key : List Held → List Waiting → ℕ → ℕ → Option ℕ
+used_key places waiting parts first = find (is_used places waiting) (new_keys parts first)
+
+-- a used key comes before what else is refused
+abbrev pub unless_used : Option ℕ → Option StepRefused → Option StepRefused
+unless_used None rest = rest
+unless_used (Some key) rest = Some (KeyUsed key)
+
+abbrev pub split_refusal : List Held → List Waiting → ℕ → ℕ → ℕ → Option StepRefused
+split_refusal places waiting key parts first =
+    if not (is_live places waiting key) then Some (NotLive key)
+    else unless_used (used_key places waiting parts first)
+    (if not (size_of (held_at places key) % parts == 0) then Some Uneven else None)
+
 abbrev pub swap_refusal : List Held → List Waiting → ℕ → ℕ → Option StepRefused
 swap_refusal places waiting one two =
     if not (is_live places waiting one) then Some (NotLive one)
@@ -184,6 +235,7 @@ trim_refusal places waiting key bytes =
 abbrev pub first_refusal : List Held → List Waiting → Op → Option StepRefused
 first_refusal places waiting (Open key section index size) = open_refusal places waiting key
 first_refusal places waiting (Close key) = close_refusal places waiting key
+first_refusal places waiting (Split key parts first) = split_refusal places waiting key parts first
 first_refusal places waiting (Swap one two) = swap_refusal places waiting one two
 first_refusal places waiting (Trim key bytes) = trim_refusal places waiting key bytes
 
@@ -320,9 +372,10 @@ CanTake (SubtractBytes bytes) hand words places = HandInWords hand words × HasB
 CanTake SubtractCall hand words places = HandInWords hand words × HasCall hand
 CanTake (Write key held next) hand words places = key < places
 
--- each key that the op names has a place
+-- each key that the op names has a place, and a split has parts
 abbrev pub KeysFit : Op → Type 0
 KeysFit (Open key section index size) = key < KEY_END
 KeysFit (Close key) = key < KEY_END
+KeysFit (Split key parts first) = (key < KEY_END) × (0 < parts) × (first + parts < KEY_END + 2)
 KeysFit (Swap one two) = (one < KEY_END) × (two < KEY_END)
 KeysFit (Trim key bytes) = key < KEY_END

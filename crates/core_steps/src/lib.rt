@@ -2,9 +2,11 @@
 //! between two steps is safe.
 #![tactic(auto)]
 
+pub mod laws;
 pub mod machine;
 pub mod op;
 mod pending;
 mod refusal;
+pub mod run;
 mod step;
 mod words;

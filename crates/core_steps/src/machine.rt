@@ -85,7 +85,7 @@ fn is_idle(waiting: &[Pending], cpu: usize) -> bool
     ensures { IsTrue result ↔ ((slice_index_or waiting.now cpu nothing_waits).ops ≡ []) }
 {
     match waiting.get(cpu) {
-        Some(pending) => pending.len() == 0,
+        Some(pending) => pending.is_empty(),
         None => true,
     }
 }
@@ -150,10 +150,13 @@ fn step_on(
 }
 
 impl Core {
-    ghost use Rattle.core_steps.specs.CoreState.{CoreState, IsCore, IsActor, IsOp, fresh, queued, ops_of, refused, stepped, word_state, total_of};
+    ghost use Rattle.core_steps.specs.CoreState.{CoreState, IsCore, IsActor, IsOp, fresh, queued, ops_of, refused, stepped, word_state, total_of, word_at};
     ghost use Rattle.core_steps.specs.StepsLeft.{steps_left, cpu_steps_left};
     ghost use Rattle.core_steps.specs.Moved.{HasMoved, moved_on};
     ghost use Rattle.tag_model.specs.Moves.{Move};
+    ghost use Rattle.std.specs.Prelude.{sum_by};
+    ghost use Rattle.tag_model.specs.Wrap.{wrap};
+    ghost use Rattle.tag_model.specs.WordState.{counted};
     ghost use Rattle.tag_model.specs.declared.state.Kind.TheVariants.{Bytes, Calls};
 
     /// All words are 0, no key holds anything, and nothing is queued.
@@ -239,7 +242,7 @@ impl Core {
         self.shape.cpus
     }
 
-    /// Whether the actor has nothing queued or under way.
+    /// Whether the actor has nothing queued or under way. A CPU that the shape doesn't have has not.
     pub fn idle(&self, actor: Actor) -> bool
         ensures empty { IsTrue result ↔ (ops_of self.now actor ≡ []) }
         ensures left { IsTrue result ↔ (steps_left self.now actor ≡ 0) }
@@ -256,27 +259,37 @@ impl Core {
         is_idle(self.waiting.as_slice(), cpu as usize)
     }
 
-    /// A CPU's byte word and call word of the tag.
-    pub fn cpu_word(&self, cpu: u32, tag: u32) -> (u64, u64)
-        requires cpu { cpu < self.now.shape.cpus }
-        requires tag { tag < self.now.shape.tags }
-        ensures bytes { result.0 ≡ slice_index (words_at self.now.words cpu) (word_place Bytes tag) }
-        ensures calls { result.1 ≡ slice_index (words_at self.now.words cpu) (word_place Calls tag) }
-    {
-        let own = &self.words[cpu as usize];
-        (own.read(Kind::Bytes, tag), own.read(Kind::Calls, tag))
-    }
-
     /// The tag's byte words and call words, added over the CPUs. They wrap.
     pub fn totals(&self, tag: u32) -> (u64, u64)
         requires { tag < self.now.shape.tags }
         ensures bytes { result.0 ≡ total_of self.now.words Bytes tag }
         ensures calls { result.1 ≡ total_of self.now.words Calls tag }
+        // They are what is counted under the tag.
+        ensures counted_bytes { result.0 ≡ wrap (sum_by (counted Bytes tag) (word_state self.now)) }
+        ensures counted_calls { result.1 ≡ wrap (sum_by (counted Calls tag) (word_state self.now)) }
     {
         let words = self.words.as_slice();
         (
             total(words, Kind::Bytes, tag),
             total(words, Kind::Calls, tag),
         )
+    }
+
+    /// A CPU's own byte word and call word of the tag.
+    pub fn cpu_word(&self, cpu: u32, tag: u32) -> (u64, u64)
+        requires cpu { cpu < self.now.shape.cpus }
+        requires tag { tag < self.now.shape.tags }
+        ensures bytes { result.0 ≡ word_at self.now.words cpu Bytes tag }
+        ensures calls { result.1 ≡ word_at self.now.words cpu Calls tag }
+    {
+        let own = &self.words[cpu as usize];
+        (own.read(Kind::Bytes, tag), own.read(Kind::Calls, tag))
+    }
+
+    /// Tells what holds of every core, and does nothing.
+    pub(crate) fn tell(&self)
+        ensures { IsCore self.now }
+    {
+        let _shape = self.shape;
     }
 }

@@ -8,6 +8,9 @@ pub const KEY_END: u32 = 65_536;
 /// The most ops that an actor has queued or under way.
 pub const MAX_QUEUED: usize = 65_536;
 
+/// The most parts of a split.
+pub const MAX_PARTS: u32 = 1_024;
+
 /// Who takes a step.
 #[derive(Clone, Copy, Debug, PartialEq, Eq)]
 pub enum Actor {
@@ -27,6 +30,13 @@ pub enum Op {
     /// A free of the key's reference.
     Close {
         key: u32,
+    },
+    /// The key's reference is split into so many equal parts. The first keeps the key, the others are put under
+    /// FIRST and the keys behind it.
+    Split {
+        key: u32,
+        parts: u32,
+        first: u32,
     },
     /// Two keys exchange their references.
     Swap {
@@ -55,6 +65,8 @@ pub enum StepRefused {
     NotLive(u32),
     /// The key holds something, or an op under way names it.
     KeyUsed(u32),
+    /// The size can't be divided into so many equal parts.
+    Uneven,
     /// A trim takes no fewer bytes than the reference has.
     TooSmall,
 }

@@ -1,4 +1,4 @@
-ghost use Rattle.std.specs.Prelude.{◌≡◌, ◌<◌, ◌++◌, ◌∷◌, [], length, IfOk, OnOk, OnErr, slice_get};
+ghost use Rattle.std.specs.Prelude.{◌≡◌, ◌<◌, ◌++◌, ◌∷◌, ◌↔◌, [], IsTrue, length, IfOk, OnOk, OnErr, slice_get};
 ghost use Rattle.core_steps.specs.Machine.{Waiting, nothing_waits, advanced, step_count};
 ghost use Rattle.core_steps.specs.CoreState.{with_op};
 ghost use Rattle.core_steps.specs.declared.op.TheConstants.{MAX_QUEUED};
@@ -38,6 +38,12 @@ impl Pending {
         ensures { result ≡ length self.now.ops }
     {
         self.ops.len()
+    }
+
+    pub fn is_empty(&self) -> bool
+        ensures { IsTrue result ↔ (self.now.ops ≡ []) }
+    {
+        self.ops.is_empty()
     }
 
     pub fn first(&self) -> Option<Op>

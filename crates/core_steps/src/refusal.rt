@@ -1,8 +1,8 @@
 //! Why an op's first step is refused.
 
-ghost use Rattle.std.specs.Prelude.{◌≡◌, ◌<◌, length};
+ghost use Rattle.std.specs.Prelude.{◌≡◌, ◌+◌, ◌<◌, length};
 ghost use Rattle.core_steps.specs.declared.op.TheConstants.{KEY_END};
-ghost use Rattle.core_steps.specs.Machine.{is_reserved, reserves, names_key, held_at, holds_nothing, is_counted, size_of, is_used, is_live, open_refusal, close_refusal, swap_refusal, trim_refusal, first_refusal, KeysFit};
+ghost use Rattle.core_steps.specs.Machine.{is_reserved, reserves, names_key, held_at, holds_nothing, is_counted, size_of, is_used, is_live, used_key, is_new_key, open_refusal, close_refusal, split_refusal, swap_refusal, trim_refusal, first_refusal, KeysFit};
 
 use crate::op::{Op, StepRefused};
 use crate::pending::Pending;
@@ -31,8 +31,20 @@ fn names_key(op: Op, key: u32) -> bool
         Op::Open { key: named, .. } | Op::Close { key: named } | Op::Trim { key: named, .. } => {
             named == key
         }
+        Op::Split {
+            key: named,
+            parts,
+            first,
+        } => named == key || is_new_key(key, parts, first),
         Op::Swap { one, two } => one == key || two == key,
     }
+}
+
+/// Whether the key is one of a split's new keys.
+fn is_new_key(key: u32, parts: u32, first: u32) -> bool
+    ensures { result ≡ is_new_key key parts first }
+{
+    first <= key && u64::from(key) + 1 < u64::from(first) + u64::from(parts)
 }
 
 fn is_empty_place(held: Held) -> bool
@@ -72,6 +84,21 @@ fn is_live(key: u32, places: &[Held], waiting: &[Pending]) -> bool
     is_counted(places[key as usize]) && !is_reserved(waiting, key)
 }
 
+/// The lowest of a split's new keys that can't have a reference.
+fn used_key(parts: u32, first: u32, places: &[Held], waiting: &[Pending]) -> Option<u32>
+    requires some_parts { 0 < parts }
+    requires few_places { length places.now ≡ KEY_END }
+    requires last { first + parts < length places.now + 2 }
+    ensures { result ≡ used_key places.now waiting.now parts first }
+{
+    for key in first..first + (parts - 1) {
+        if is_used(key, places, waiting) {
+            return Some(key);
+        }
+    }
+    None
+}
+
 fn open_refusal(key: u32, places: &[Held], waiting: &[Pending]) -> Option<StepRefused>
     requires { key < length places.now }
     ensures { result ≡ open_refusal places.now waiting.now key }
@@ -88,6 +115,31 @@ fn close_refusal(key: u32, places: &[Held], waiting: &[Pending]) -> Option<StepR
 {
     if !is_live(key, places, waiting) {
         return Some(StepRefused::NotLive(key));
+    }
+    None
+}
+
+fn split_refusal(
+    key: u32,
+    parts: u32,
+    first: u32,
+    places: &[Held],
+    waiting: &[Pending],
+) -> Option<StepRefused>
+    requires key { key < length places.now }
+    requires some_parts { 0 < parts }
+    requires few_places { length places.now ≡ KEY_END }
+    requires last { first + parts < length places.now + 2 }
+    ensures { result ≡ split_refusal places.now waiting.now key parts first }
+{
+    if !is_live(key, places, waiting) {
+        return Some(StepRefused::NotLive(key));
+    }
+    if let Some(used) = used_key(parts, first, places, waiting) {
+        return Some(StepRefused::KeyUsed(used));
+    }
+    if size_of(places[key as usize]) % u64::from(parts) != 0 {
+        return Some(StepRefused::Uneven);
     }
     None
 }
@@ -128,6 +180,7 @@ pub fn first_refusal(op: Op, places: &[Held], waiting: &[Pending]) -> Option<Ste
     match op {
         Op::Open { key, .. } => open_refusal(key, places, waiting),
         Op::Close { key } => close_refusal(key, places, waiting),
+        Op::Split { key, parts, first } => split_refusal(key, parts, first, places, waiting),
         Op::Swap { one, two } => swap_refusal(one, two, places, waiting),
         Op::Trim { key, bytes } => trim_refusal(key, bytes, places, waiting),
     }

@@ -1,9 +1,9 @@
 //! The steps of each op, in order.
 
-ghost use Rattle.std.specs.Prelude.{◌≡◌, ◌<◌, length};
+ghost use Rattle.std.specs.Prelude.{◌≡◌, ◌+◌, ◌*◌, ◌^◌, ◌<◌, ◌≤◌, length};
 ghost use Rattle.tag_model.specs.StepRules.{without_call};
 ghost use Rattle.core_steps.specs.declared.op.TheConstants.{KEY_END};
-ghost use Rattle.core_steps.specs.Machine.{step_of, open_step, close_step, swap_step, trim_step, clear_step, put_step, in_hand, put_down, bytes_in, step_count, words_after, hand_after, places_after, CanTake, KeysFit, held_at};
+ghost use Rattle.core_steps.specs.Machine.{step_of, open_step, close_step, split_step, part_key, share_step, share_of, rest_of, swap_step, trim_step, clear_step, put_step, in_hand, put_down, bytes_in, step_count, words_after, hand_after, places_after, CanTake, KeysFit, HasCall, held_at};
 
 use crate::op::Op;
 use crate::words::CpuWords;
@@ -42,12 +42,15 @@ pub fn step_count(op: Op) -> u64
 {
     match op {
         Op::Open { .. } | Op::Close { .. } | Op::Swap { .. } | Op::Trim { .. } => 3,
+        Op::Split { parts, .. } => 2 * u64::from(parts),
     }
 }
 
 /// The step that comes after so many.
 pub fn next_step(op: Op, done: u64, hand: Option<Hand>, places: &[Held]) -> WordStep
     requires keys { KeysFit op }
+    requires under_way { done < step_count op }
+    requires calls { HasCall hand }
     requires places { length places.now ≡ KEY_END }
     ensures { result ≡ step_of op done hand places.now }
 {
@@ -59,6 +62,7 @@ pub fn next_step(op: Op, done: u64, hand: Option<Hand>, places: &[Held]) -> Word
             ..
         } => open_step(key, index, size, done),
         Op::Close { key } => close_step(key, done, hand, places),
+        Op::Split { key, parts, first } => split_step(key, parts, first, done, hand, places),
         Op::Swap { one, two } => swap_step(one, two, done, hand, places),
         Op::Trim { key, bytes } => trim_step(key, bytes, done, hand, places),
     }
@@ -93,6 +97,81 @@ fn close_step(key: u32, done: u64, hand: Option<Hand>, places: &[Held]) -> WordS
         },
         _ => WordStep::SubtractCall,
     }
+}
+
+fn split_step(
+    key: u32,
+    parts: u32,
+    first: u32,
+    done: u64,
+    hand: Option<Hand>,
+    places: &[Held],
+) -> WordStep
+    requires key { key < length places.now }
+    requires last { first + parts ≤ 2 ^ 32 }
+    requires under_way { done < 2 * parts }
+    requires calls { HasCall hand }
+    ensures { result ≡ split_step key parts first done hand places.now }
+{
+    if done == 0 {
+        return clear_step(key, places);
+    }
+    let adds = u64::from(parts);
+    if done < adds {
+        return WordStep::AddCall;
+    }
+    share_step(part_key(key, first, (done - adds) as u32), hand)
+}
+
+/// The key of a part of a split.
+fn part_key(key: u32, first: u32, part: u32) -> u32
+    requires { first + part ≤ 2 ^ 32 }
+    ensures { result ≡ part_key key first part }
+{
+    if part == 0 { key } else { first + (part - 1) }
+}
+
+/// An equal share of what is in hand is written into the place, and the rest stays in hand.
+fn share_step(key: u32, hand: Option<Hand>) -> WordStep
+    requires { HasCall hand }
+    ensures { result ≡ share_step key hand }
+{
+    match hand {
+        Some(held) => {
+            let share = share_of(held);
+            WordStep::Write {
+                key,
+                held: Held::Counted {
+                    tag: held.tag,
+                    size: share,
+                },
+                hand: rest_of(held, share),
+            }
+        }
+        None => WordStep::Write {
+            key,
+            held: Held::None,
+            hand: None,
+        },
+    }
+}
+
+/// The bytes in hand over the calls in hand.
+fn share_of(hand: Hand) -> u64
+    requires { 0 < hand.calls }
+    ensures { result ≡ share_of hand }
+{
+    hand.bytes / u64::from(hand.calls)
+}
+
+/// The hand with so many bytes and a call less, or none where that was its last.
+fn rest_of(mut hand: Hand, share: u64) -> Option<Hand>
+    requires calls { 0 < hand.calls }
+    requires bytes { share ≤ hand.bytes }
+    ensures { result ≡ rest_of hand share }
+{
+    hand.bytes -= share;
+    without_call(hand)
 }
 
 fn swap_step(one: u32, two: u32, done: u64, hand: Option<Hand>, places: &[Held]) -> WordStep

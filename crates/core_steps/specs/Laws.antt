@@ -1,0 +1,36 @@
+-- What is said of many steps of a core.
+use Rattle.std.specs.Prelude.{◌≡◌, ℕ, ◌<◌, ◌++◌, List, [], ◌∷◌, Option, None, replicate}
+use Rattle.tag_model.specs.declared.state.Tag.{Tag}
+use Rattle.tag_model.specs.declared.state.Kind.TheVariants.{Calls}
+use Rattle.tag_model.specs.Moves.{Move}
+use Rattle.core_steps.specs.declared.op.Op.{Op}
+use Rattle.core_steps.specs.declared.op.Actor.{Actor}
+use Rattle.core_steps.specs.declared.op.Actor.TheVariants as actor
+use Rattle.core_steps.specs.Machine.{Waiting, waiting_at, moves_of_step}
+use Rattle.core_steps.specs.CoreState.{CoreState, refused, stepped, run_of}
+
+-- the CPU's first op, of which it has taken so many steps
+abbrev pub waits_for : Op → List Op → ℕ → Waiting
+waits_for op ops done = record { ops = op ∷ ops; done = done }
+
+-- the CPU's next step is the first of this op, and isn't refused
+pub record Begins (s : CoreState) (cpu : ℕ) (op : Op) (ops : List Op) : Type 0 where
+  pub waits : waiting_at s.machine cpu ≡ waits_for op ops 0
+  pub free : refused s (actor.Cpu cpu) ≡ None
+
+-- the core after so many steps of the CPU
+abbrev pub after_steps : CoreState → ℕ → ℕ → CoreState
+after_steps s cpu n = run_of s (replicate n (actor.Cpu cpu))
+
+-- the moves of an actor's next step
+abbrev pub moves_of_actor : CoreState → Actor → List Move
+moves_of_actor s (actor.Cpu cpu) = moves_of_step s.machine cpu
+
+-- the moves of a run
+abbrev pub moves_of_run : CoreState → List Actor → List Move
+moves_of_run s [] = []
+moves_of_run s (a ∷ actors) = moves_of_actor s a ++ moves_of_run (stepped s a) actors
+
+-- the CPU counts a call more under the tag
+abbrev pub call_move : ℕ → Tag → Move
+call_move cpu tag = record { cpu = cpu; kind = Calls; tag = tag.number; up = 1; down = 0 }

@@ -1,0 +1,46 @@
+//! Laws of every core. The functions do nothing: what they promise are facts of the definitions.
+
+ghost use Rattle.std.specs.Prelude.{◌≡◌, ℕ, ◌+◌, ◌-◌, ◌*◌, ◌<◌, ◌==◌, if◌then◌else◌, List, None, replicate};
+ghost use Rattle.tag_model.specs.Laws.{live_of};
+ghost use Rattle.tag_model.specs.Reference.{live_total};
+ghost use Rattle.tag_model.specs.Wrap.{wrap};
+ghost use Rattle.tag_model.specs.declared.state.Held.TheVariants as held;
+ghost use Rattle.tag_model.specs.declared.state.Kind.{Kind};
+ghost use Rattle.tag_model.specs.declared.state.Kind.TheVariants.{Bytes, Calls};
+ghost use Rattle.tag_model.specs.declared.state.Tag.{Tag};
+ghost use Rattle.core_steps.specs.declared.op.Op.{Op};
+ghost use Rattle.core_steps.specs.declared.op.Op.TheVariants.{Open, Close, Split, Swap, Trim};
+ghost use Rattle.core_steps.specs.declared.op.Actor.TheVariants as actor;
+ghost use Rattle.core_steps.specs.Machine.{hand_at, held_at, waiting_at, step_count};
+ghost use Rattle.core_steps.specs.CoreState.{CoreState, IsCore, refused, word_state, total_of};
+ghost use Rattle.core_steps.specs.Laws.{Begins, waits_for, after_steps, moves_of_run, call_move};
+
+/// An op whose first step isn't refused takes just as many steps as are said of it, none of which is refused, and
+/// then the next op is the CPU's first.
+pub fn step_counts_are_exact()
+    ensures open { (key section index size : ℕ) → step_count (Open key section index size) ≡ 3 }
+    ensures close { (key : ℕ) → step_count (Close key) ≡ 3 }
+    ensures split { (key parts first : ℕ) → step_count (Split key parts first) ≡ 2 * parts }
+    ensures swap { (one two : ℕ) → step_count (Swap one two) ≡ 3 }
+    ensures trim { (key bytes : ℕ) → step_count (Trim key bytes) ≡ 3 }
+    ensures under_way { (s : CoreState) (cpu i : ℕ) (op : Op) (ops : List Op) → IsCore s → Begins s cpu op ops → i < step_count op → waiting_at (after_steps s cpu i).machine cpu ≡ waits_for op ops i }
+    ensures unrefused { (s : CoreState) (cpu i : ℕ) (op : Op) (ops : List Op) → IsCore s → Begins s cpu op ops → i < step_count op → refused (after_steps s cpu i) (actor.Cpu cpu) ≡ None }
+    ensures ended { (s : CoreState) (cpu : ℕ) (op : Op) (ops : List Op) → IsCore s → Begins s cpu op ops → waiting_at (after_steps s cpu (step_count op)).machine cpu ≡ record { ops = ops; done = 0 } }
+{
+}
+
+/// Where no CPU has a hand, the words of a tag, added over the CPUs, are the bytes and the references that its
+/// places hold, modulo 2^64.
+pub fn quiet_totals_are_those_of_the_live_list()
+    ensures { (s : CoreState) (kind : Kind) (t : ℕ) → IsCore s → ((cpu : ℕ) → cpu < s.shape.cpus → hand_at s.machine cpu ≡ None) → total_of s.words kind t ≡ wrap (live_total kind t (live_of (word_state s))) }
+{
+}
+
+/// The steps of a split into k parts count k - 1 calls more, and no byte: so do the CPU's words, and so do the
+/// references that are live before it and after it.
+pub fn a_split_adds_calls_and_no_bytes()
+    ensures moves { (s : CoreState) (cpu key parts first size : ℕ) (tag : Tag) (ops : List Op) → IsCore s → Begins s cpu (Split key parts first) ops → held_at s.machine.places key ≡ held.Counted tag size → moves_of_run s (replicate (2 * parts) (actor.Cpu cpu)) ≡ replicate (parts - 1) (call_move cpu tag) }
+    ensures bytes { (s : CoreState) (cpu key parts first t : ℕ) (ops : List Op) → IsCore s → Begins s cpu (Split key parts first) ops → live_total Bytes t (live_of (word_state (after_steps s cpu (2 * parts)))) ≡ live_total Bytes t (live_of (word_state s)) }
+    ensures calls { (s : CoreState) (cpu key parts first size t : ℕ) (tag : Tag) (ops : List Op) → IsCore s → Begins s cpu (Split key parts first) ops → held_at s.machine.places key ≡ held.Counted tag size → live_total Calls t (live_of (word_state (after_steps s cpu (2 * parts)))) ≡ live_total Calls t (live_of (word_state s)) + (if tag.number == t then parts - 1 else 0) }
+{
+}
