@@ -22,7 +22,8 @@ use Rattle.trace.specs.declared.steps.StepOp.TheVariants as op
 use Rattle.trace.specs.declared.steps.Steps.{Steps}
 use Rattle.trace.specs.Forms.{line_form, tail_form, is_skipped, first_line}
 use Rattle.trace.specs.Head.{cpus_of, section_form}
-use Rattle.trace.specs.Judging.{at}
+use Rattle.trace.specs.Judging.{at, need}
+use Rattle.trace.specs.Words.{is_word}
 use Rattle.trace.specs.StepForm.{IsStepOp, IsStepAct, is_printing, prints_of, AreSteps, IsKernelOp, IsKernelAct}
 use Rattle.trace.specs.StepReading.{empty_reading, with_head, with_act, with_print, in_body, keyword_line, step_line, step_lines, steps_from, steps_of}
 use Rattle.trace.specs.StepWords.{step_keyword}
@@ -229,9 +230,10 @@ pub steps_of_formed : (text : List ℕ) (s : Steps) → steps_of text ≡ Ok s �
 unfolding steps_of
 steps_of_formed text s read =
     IfOk-at_ok AreSteps read
-    (skipped AreSteps (at 1 (first_line (codes "memprof-steps 1.0") (lines_of text) (tail_of text))) _
-    (bound (λ r. AreSteps (steps_from r)) AreSteps _ (λ reading. Ok (steps_from reading)) (lines_in 2 (drop 1 (lines_of text)) (tail_of text) empty_reading IsReading-empty)
-    (λ reading formed. formed)))
+    (given AreSteps (at 1 (first_line (lines_of text) (tail_of text))) _ (λ header.
+      skipped AreSteps (at 1 (need (is_word (codes "memprof-steps 1.0") header) code.Header)) _
+      (bound (λ r. AreSteps (steps_from r)) AreSteps _ (λ reading. Ok (steps_from reading)) (lines_in 2 (drop 1 (lines_of text)) (tail_of text) empty_reading IsReading-empty)
+      (λ reading formed. formed))))
 
 kernel_op : (sections : List Section) (o : StepOp) → length sections ≡ 1 → IsStepOp sections o → IsKernelOp o
 kernel_op sections (op.Open key section index size) one is = omega (arith, is.1.0)
