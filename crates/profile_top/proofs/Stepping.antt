@@ -1,14 +1,21 @@
 -- Steps one after the other.
-use Rattle.std.proofs.Common.{◌≡◌, ℕ, zero, suc, ◌+◌, ◌-◌, ◌<◌, ◌≤◌, List, [], refl, sym, ap, ◌∙◌, subst, arith, Option, Some, None, Result, Ok, Err, Bool, true, false, IsTrue, ◌↔◌}
+use Rattle.std.proofs.Common.{◌≡◌, ℕ, zero, suc, ◌+◌, ◌-◌, ◌<◌, ◌≤◌, List, [], ◌∷◌, ◌++◌, refl, sym, ap, ◌∙◌, subst, arith, Option, Some, None, Result, Ok, Err, Bool, true, false, IsTrue, ◌↔◌, length, drop, get_or}
+use Rattle.std.proofs.Math.Seq.{drop-cons}
+use Rattle.tag_model.specs.declared.shape.Shape.{Shape}
+use Rattle.tag_section.specs.Section.{Section}
 use Rattle.core_steps.specs.declared.op.Actor.{Actor}
 use Rattle.core_steps.specs.declared.op.Actor.TheVariants as actor
 use Rattle.core_steps.specs.CoreState.{CoreState}
 use Rattle.trace.specs.declared.code.Code.{Code}
-use Rattle.trace.specs.Judging.{◌>>=◌}
+use Rattle.trace.specs.Judging.{◌>>=◌, at}
+use Rattle.trace.specs.declared.code.TextError.{TextError}
+use Rattle.trace.specs.declared.code.TextError.TheVariants as text_error
+use Rattle.trace.specs.declared.steps.StepLine.{StepLine}
+use Rattle.profile_top.specs.Acts.{act_of}
 use Rattle.profile_top.specs.declared.act.ActError.{ActError}
 use Rattle.profile_top.specs.declared.act.ActError.TheVariants as error
 use Rattle.profile_top.specs.Printed.{Setting}
-use Rattle.profile_top.specs.Schedule.{Played, Shows, Follows, SameSizes, one_step, steps_taken, steps_on}
+use Rattle.profile_top.specs.Schedule.{Played, Shows, Follows, SameSizes, Plays, one_step, steps_taken, steps_on, with_text, play, asks, setting, ◌then◌}
 
 bind_ok : (r : Result Played Code) → (r >>= (λ p. Ok p)) ≡ r
 bind_ok (Ok p) = refl
@@ -62,3 +69,44 @@ same_sizes c = record { shape = refl; kernel_len = refl }
 
 pub sizes_kept : (a b c : CoreState) → SameSizes a b → SameSizes b c → SameSizes a c
 sizes_kept a b c h g = record { shape = g.shape ∙ h.shape; kernel_len = g.kernel_len ∙ h.kernel_len }
+
+-- more text
+pub text_shown : (s : Setting) (now : CoreState) (old new more : List ℕ) (p : Played) → Shows s now old p → new ≡ old ++ more → Shows s now new (with_text more p)
+text_shown s now old new more p shows e = record { core = shows.core; text = e ∙ ap (λ (t : List ℕ). t ++ more) shows.text }
+
+-- what a loop over lines keeps
+pub record Reaches (s : Setting) (now : CoreState) (text : List ℕ) (left all : List StepLine) (start : Played) : Type 0 where
+  pub played : Played
+  pub shows : Shows s now text played
+  pub rest : play s all start ≡ play s left played
+
+then_on : (s : Setting) (next : CoreState) (text : List ℕ) (left all : List StepLine) (start : Played) (r : Result Played (ℕ × Code)) → play s all start ≡ (r then play s left) → Plays s (Ok tt) next text r → Reaches s next text left all start
+then_on s next text left all start (Ok p) rest f = record { played = p; shows = f; rest = rest }
+then_on s next text left all start (Err why) rest f = absurd f
+
+pub reaches_on : (s : Setting) (now next : CoreState) (text written : List ℕ) (line : StepLine) (left all : List StepLine) (start : Played) (g : Reaches s now text (line ∷ left) all start)
+    → Plays s (Ok tt) next written (at line.line (asks s (act_of line.act) g.played)) → Reaches s next written left all start
+reaches_on s now next text written line left all start g f = then_on s next written left all start (at line.line (asks s (act_of line.act) g.played)) g.rest f
+
+pub reaches_err : (s : Setting) (now next : CoreState) (text written : List ℕ) (line : StepLine) (left all : List StepLine) (start : Played) (e : TextError) (g : Reaches s now text (line ∷ left) all start)
+    → Plays s (Err e) next written (at line.line (asks s (act_of line.act) g.played)) → Plays s (Err e) next written (play s all start)
+reaches_err s now next text written line left all start (text_error.Refused number code) g f = g.rest ∙ ap (λ (r : Result Played (ℕ × Code)). r then play s left) f
+reaches_err s now next text written line left all start (text_error.Memory want) g f = tt
+
+pub reaches_end : (s : Setting) (now : CoreState) (text : List ℕ) (all : List StepLine) (start : Played) (g : Reaches s now text [] all start) → Plays s (Ok tt) now text (play s all start)
+reaches_end s now text all start g = rw g.rest g.shows
+
+-- a line that was played, whatever the loop's core calls the same shape
+pub reaches_line : (shape shape_now : Shape) (sections : List Section) (now next : CoreState) (text written : List ℕ) (line d : StepLine) (lines : List StepLine) (index : ℕ) (start : Played) → shape_now ≡ shape → index < length lines → line ≡ get_or lines index d
+    → (g : Reaches (setting shape sections) now text (drop index lines) lines start)
+    → ((p : Played) → Shows (setting shape_now sections) now text p → Plays (setting shape_now sections) (Ok tt) next written (at line.line (asks (setting shape_now sections) (act_of line.act) p)))
+    → Reaches (setting shape sections) next written (drop (index + 1) lines) lines start
+reaches_line shape shape_now sections now next text written line d lines index start e h is g f = let plus_one : index + 1 ≡ suc index = omega arith in let g' : Reaches (setting shape sections) now text (line ∷ drop (index + 1) lines) lines start = rw plus_one (rw is (rw (sym (drop-cons lines index d h)) g)) in
+    reaches_on (setting shape sections) now next text written line (drop (index + 1) lines) lines start g' (rw (sym e) (f g'.played (rw e g'.shows)))
+
+pub reaches_refused : (shape shape_now : Shape) (sections : List Section) (now next : CoreState) (text written : List ℕ) (line d : StepLine) (lines : List StepLine) (index : ℕ) (start : Played) (why : TextError) → shape_now ≡ shape → index < length lines → line ≡ get_or lines index d
+    → (g : Reaches (setting shape sections) now text (drop index lines) lines start)
+    → ((p : Played) → Shows (setting shape_now sections) now text p → Plays (setting shape_now sections) (Err why) next written (at line.line (asks (setting shape_now sections) (act_of line.act) p)))
+    → Plays (setting shape sections) (Err why) next written (play (setting shape sections) lines start)
+reaches_refused shape shape_now sections now next text written line d lines index start why e h is g f = let plus_one : index + 1 ≡ suc index = omega arith in let g' : Reaches (setting shape sections) now text (line ∷ drop (index + 1) lines) lines start = rw plus_one (rw is (rw (sym (drop-cons lines index d h)) g)) in
+    reaches_err (setting shape sections) now next text written line (drop (index + 1) lines) lines start why g' (rw (sym e) (f g'.played (rw e g'.shows)))

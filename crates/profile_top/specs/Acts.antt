@@ -24,7 +24,7 @@ actor_of step_actor.Manager = None
 abbrev pub op_of : StepOp → Option Op
 op_of (step_op.Open key section index size) = Some (op.Open key section index size)
 op_of (step_op.Close key) = Some (op.Close key)
-op_of (step_op.Split key parts first) = None
+op_of (step_op.Split key parts first) = Some (op.Split key parts first)
 op_of (step_op.Swap one two) = Some (op.Swap one two)
 op_of (step_op.Trim key bytes) = Some (op.Trim key bytes)
 op_of (step_op.Enter section) = None
@@ -46,3 +46,4 @@ code_of refused.NoStep = code.NoStep
 code_of (refused.KeyUsed key) = code.KeyUsed key
 code_of (refused.NotLive key) = code.NotLive key
 code_of refused.TooSmall = code.TooSmall
+code_of refused.Uneven = code.Uneven

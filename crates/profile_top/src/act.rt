@@ -5,8 +5,7 @@ ghost use Rattle.profile_top.specs.Acts.{actor_of, op_of, act_of, code_of};
 
 use core_steps::op::{Actor, Op, StepRefused};
 use std::alloc::AllocError;
-use trace::Code;
-use trace::steps::{StepAct, StepActor, StepOp};
+use trace::{Code, StepAct, StepActor, StepOp};
 
 /// What a line asks for. A count of None is `all`.
 #[derive(Clone, Copy, Debug, PartialEq, Eq)]
@@ -60,6 +59,7 @@ fn op_of(op: StepOp) -> Option<Op>
             size,
         }),
         StepOp::Close { key } => Some(Op::Close { key }),
+        StepOp::Split { key, parts, first } => Some(Op::Split { key, parts, first }),
         StepOp::Swap { one, two } => Some(Op::Swap { one, two }),
         StepOp::Trim { key, bytes } => Some(Op::Trim { key, bytes }),
         _ => None,
@@ -93,6 +93,7 @@ pub(crate) fn code_of(why: StepRefused) -> Code
         StepRefused::NoStep => Code::NoStep,
         StepRefused::NotLive(key) => Code::NotLive(key),
         StepRefused::KeyUsed(key) => Code::KeyUsed(key),
+        StepRefused::Uneven => Code::Uneven,
         StepRefused::TooSmall => Code::TooSmall,
     }
 }

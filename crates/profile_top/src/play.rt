@@ -4,9 +4,9 @@ ghost use Rattle.std.specs.Prelude.{◌≡◌, ℕ, ◌+◌, ◌<◌, ◌≤◌,
 ghost use Rattle.core_steps.specs.StepsLeft.{steps_left};
 ghost use Rattle.core_steps.specs.CoreState.{IsOp, IsActor};
 ghost use Rattle.profile_top.specs.Printed.{Setting};
-ghost use Rattle.profile_top.specs.Schedule.{Played, Shows, Follows, SameSizes, IsAct, IsLine, setting, queues_on, steps_on, asked, act_on, asks, play};
+ghost use Rattle.profile_top.specs.Schedule.{Played, Shows, Follows, SameSizes, IsAct, IsLine, setting, queues_on, steps_on, asked, act_on, asks, play, Plays};
 ghost use Rattle.profile_top.specs.Acts.{act_of};
-ghost use Rattle.trace.specs.Judging.{Reads};
+ghost use Rattle.trace.specs.Judging.{at};
 ghost use Rattle.tag_section.specs.Section.{section_at};
 ghost use Rattle.std.specs.List.{AllByRecursion};
 ghost use Rattle.profile_top.specs.Printed.{kernel_len, rows_below, cpu_text, words_text, allocinfo_text, IsKernelRow};
@@ -17,7 +17,7 @@ use core_steps::op::{Actor, Op, QueueError};
 use itoa::Buffer;
 use std::alloc::{AllocError, Global};
 use tag_section::Sections;
-use trace::Code;
+use trace::{Code, StepLine, TextError};
 
 use crate::act::{Act, ActError, act_of, code_of};
 
@@ -177,4 +177,55 @@ fn play_act(
             Ok(())
         }
     }
+}
+
+/// Plays a line.
+fn play_line(
+    alloc: Global,
+    core: &mut Core,
+    sections: &Sections,
+    line: StepLine,
+    out: &mut Vec<u8>,
+) -> Result<(), TextError>
+    requires kernel { 0 < length sections.now }
+    requires fits { length (section_at sections.now 0).tags ≤ core.old.shape.tags }
+    requires len { core.old.kernel_len ≡ length (section_at sections.now 0).tags }
+    requires line { IsLine (setting core.old.shape sections.now) line }
+    ensures meaning { let s = setting core.old.shape sections.now in (p : Played) → Shows s core.old out.old.items p → Plays s result core.new out.new.items (at line.line (asks s (act_of line.act) p)) }
+    ensures sizes { SameSizes core.old core.new }
+{
+    let number = line.line;
+    let Some(act) = act_of(line.act) else {
+        return Err(TextError::Refused {
+            line: number,
+            code: Code::NotBuilt,
+        });
+    };
+    match play_act(alloc, core, sections, act, out) {
+        Ok(()) => Ok(()),
+        Err(ActError::Refused(code)) => Err(TextError::Refused { line: number, code }),
+        Err(ActError::Memory(want)) => Err(TextError::Memory(want)),
+    }
+}
+
+/// Plays the lines in their order, up to the first that is refused.
+pub(crate) fn play(
+    alloc: Global,
+    core: &mut Core,
+    sections: &Sections,
+    lines: &[StepLine],
+    out: &mut Vec<u8>,
+) -> Result<(), TextError>
+    requires kernel { 0 < length sections.now }
+    requires fits { length (section_at sections.now 0).tags ≤ core.old.shape.tags }
+    requires len { core.old.kernel_len ≡ length (section_at sections.now 0).tags }
+    requires lines { All (IsLine (setting core.old.shape sections.now)) lines.now }
+    ensures { let s = setting core.old.shape sections.now in (p : Played) → Shows s core.old out.old.items p → Plays s result core.new out.new.items (play s lines.now p) }
+{
+    for line in lines {
+        if let Err(error) = play_line(alloc, core, sections, *line, out) {
+            return Err(error);
+        }
+    }
+    Ok(())
 }

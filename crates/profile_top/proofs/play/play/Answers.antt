@@ -1,0 +1,10 @@
+use Rattle.std.proofs.Common.{refl, length}
+use Rattle.profile_top.proofs.Stepping.{reaches_line, reaches_refused, reaches_end, sizes_kept}
+use Rattle.profile_top.proofs.play.play.Goals as goal
+
+pub loop-line-preserved : goal.loop-line-preserved
+loop-line-preserved c = record {
+  reaches = λ p shows. reaches_line c.args.core.now.shape c.loop-line.core.shape c.args.sections.now c.loop-line.core c.play_line.new.core c.loop-line.out.items c.play_line.new.out.items _ _ c.args.lines.now c.loop-line.line-index p
+      c.loop-line.invariant.sizes.shape c.loop-line-test.true refl (c.loop-line.invariant.reaches p shows) c.in_default.ensures.meaning;
+  sizes = sizes_kept c.args.core.now c.loop-line.core c.play_line.new.core c.loop-line.invariant.sizes c.in_default.ensures.sizes;
+}
