@@ -18,9 +18,9 @@ use Rattle.core_steps.proofs.Kept.{gone, next_at, first_passes}
 -- a CPU that waits for an op is one of the machine
 pub waits_below : (m : Machine) (cpu : ℕ) (op : Op) (ops : List Op) (done : ℕ) → waiting_at m cpu ≡ waits_for op ops done → cpu < length m.waiting
 waits_below m cpu op ops done waits = elim (cases_lt cpu (length m.waiting)) [
-    | inl l ↦ l
-    | inr past ↦ let none : [] ≡ op ∷ ops = sym (ap (λ (w : Waiting). w.ops) (get_or_past m.waiting cpu nothing_waits past)) ∙ ap (λ (w : Waiting). w.ops) waits in cc
-    ]
+  | inl l ↦ l
+  | inr past ↦ let none : [] ≡ op ∷ ops = sym (ap (λ (w : Waiting). w.ops) (get_or_past m.waiting cpu nothing_waits past)) ∙ ap (λ (w : Waiting). w.ops) waits in cc
+]
 
 pub later_free : (m : Machine) (op : Op) (ops : List Op) (done : ℕ) → done ≢ 0 → refusal_in m (op ∷ ops) done ≡ None
 later_free m op ops done later = let t : (done == 0) ≡ false = grind (arith, nat_tests) in rw t refl
