@@ -1,5 +1,5 @@
 -- With no hand out, what is counted is what the places hold.
-use Rattle.std.proofs.Common.{◌≡◌, ℕ, zero, suc, ◌+◌, ◌<◌, ◌≤◌, List, [], ◌∷◌, ◌++◌, length, get_or, refl, sym, ap, ◌∙◌, subst, arith, Option, Some, None, sum_by}
+use Rattle.std.proofs.Common.{◌≡◌, ℕ, suc, ◌+◌, ◌<◌, List, [], ◌∷◌, ◌++◌, length, get_or, refl, sym, ap, ◌∙◌, arith, Option, None, sum_by}
 use Rattle.std.proofs.lemmas.List.Sums.{sum_by-cons, sum_by-append}
 use Rattle.tag_model.specs.declared.state.Hand.{Hand}
 use Rattle.tag_model.specs.declared.state.Held.{Held}
@@ -10,7 +10,6 @@ use Rattle.tag_model.specs.declared.state.Part.TheVariants.{Cpu, Place, Modules,
 use Rattle.tag_model.specs.Laws.{has_hand, hand_number, live_of, live_pair}
 use Rattle.tag_model.specs.Reference.{held_counts, live_total}
 use Rattle.tag_model.specs.Wrap.{wrap}
-use Rattle.tag_model.specs.WordState.{word_of, counted}
 use Rattle.tag_model.proofs.Live.{live_words}
 use Rattle.core_steps.specs.Machine.{hand_at}
 use Rattle.core_steps.specs.CoreState.{CoreState, IsCore, cpu_part, cpu_parts, place_parts, no_modules, state_of, word_state, total_of}

@@ -1,6 +1,6 @@
 -- The steps of a split, from its first to its last: a call more for each part but one, and no byte.
-use Rattle.std.proofs.Common.{◌≡◌, ◌≢◌, ℕ, zero, suc, ◌+◌, ◌-◌, ◌*◌, ◌<◌, ◌≤◌, ◌==◌, nat_lt, List, [], ◌∷◌, ◌++◌, length, get_or, set, replicate, refl, sym, ap, ◌∙◌, subst, arith, Option, Some, None, Bool, true, false, cond, inl, inr, sum_by}
-use Rattle.std.proofs.lemmas.Bool.{cases_eq, cases_lt}
+use Rattle.std.proofs.Common.{◌≡◌, ◌≢◌, ℕ, zero, suc, ◌+◌, ◌-◌, ◌*◌, ◌<◌, ◌≤◌, ◌==◌, nat_lt, List, [], ◌∷◌, ◌++◌, set, replicate, refl, sym, ap, ◌∙◌, subst, arith, Option, Some, None, Bool, true, false, cond, inl, inr, sum_by}
+use Rattle.std.proofs.lemmas.Bool.{cases_lt}
 use Rattle.std.proofs.lemmas.Bool.Decides.{nat_tests}
 use Rattle.std.proofs.lemmas.List.Sums.{sum_by-set}
 use Rattle.std.proofs.Math.Nat.{suc-mul}
@@ -14,18 +14,16 @@ use Rattle.tag_model.specs.declared.state.Kind.TheVariants.{Bytes, Calls}
 use Rattle.tag_model.specs.Moves.{Move}
 use Rattle.tag_model.specs.Laws.{live_of}
 use Rattle.tag_model.specs.Reference.{amount, hand_counts, held_counts, live_total}
-use Rattle.tag_model.specs.WordState.{word_of}
 use Rattle.tag_model.proofs.PlaceRow.{counts_stay}
 use Rattle.core_steps.specs.declared.op.Op.{Op}
 use Rattle.core_steps.specs.declared.op.Op.TheVariants.{Open, Close, Split, Swap, Trim}
-use Rattle.core_steps.specs.declared.op.Actor.{Actor}
 use Rattle.core_steps.specs.declared.op.Actor.TheVariants as actor
 use Rattle.core_steps.specs.declared.step.WordStep.{WordStep}
 use Rattle.core_steps.specs.declared.step.WordStep.TheVariants.{AddCall, Write}
-use Rattle.core_steps.specs.Machine.{Waiting, Machine, waiting_at, hand_at, held_at, in_hand, is_counted, part_key, clear_step, share_step, step_of, hand_after, places_after, with_call, moves_in, moves_of, moves_of_step}
-use Rattle.core_steps.specs.CoreState.{CoreState, IsCore, IsReady, IsSplitting, HoldsParts, settled_hand, stepped, run_of, word_state}
+use Rattle.core_steps.specs.Machine.{Waiting, Machine, waiting_at, hand_at, held_at, in_hand, is_counted, part_key, clear_step, step_of, hand_after, places_after, with_call, moves_in, moves_of, moves_of_step}
+use Rattle.core_steps.specs.CoreState.{CoreState, IsCore, IsReady, settled_hand, stepped, word_state}
 use Rattle.core_steps.specs.Laws.{Begins, waits_for, after_steps, moves_of_run, call_move}
-use Rattle.core_steps.proofs.Takes.{IsRuled, CanWrite}
+use Rattle.core_steps.proofs.Takes.{IsRuled}
 use Rattle.core_steps.proofs.Splits.{rest_hand, share_written, split_passes}
 use Rattle.core_steps.proofs.Runs.{run_shape, stepped_shape}
 use Rattle.std.proofs.lemmas.Bool.{and_parts}

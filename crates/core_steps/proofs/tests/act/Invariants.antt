@@ -4,4 +4,4 @@ use Rattle.core_steps.proofs.tests.act.Given as goal
 
 -- the core keeps its shape
 abbrev pub invariant-loop-step : goal.invariant-loop-step
-invariant-loop-step l = (l.core.shape.cpus ≡ CPUS) × (l.core.shape.tags ≡ TAGS) × (l.core.kernel_len ≡ KERNEL_TAGS)
+invariant-loop-step g l = (l.core.shape.cpus ≡ CPUS) × (l.core.shape.tags ≡ TAGS) × (l.core.kernel_len ≡ KERNEL_TAGS)

@@ -4,4 +4,4 @@ use Rattle.core_steps.proofs.tests.play_all.Given as goal
 
 -- the core keeps its shape
 abbrev pub invariant-loop-play : goal.invariant-loop-play
-invariant-loop-play l = (l.core.shape.cpus ≡ CPUS) × (l.core.shape.tags ≡ TAGS) × (l.core.kernel_len ≡ KERNEL_TAGS)
+invariant-loop-play g l = (l.core.shape.cpus ≡ CPUS) × (l.core.shape.tags ≡ TAGS) × (l.core.kernel_len ≡ KERNEL_TAGS)
