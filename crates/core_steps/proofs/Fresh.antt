@@ -1,5 +1,5 @@
 -- A fresh core is a core: nothing is counted, and each part is there once.
-use Rattle.std.proofs.Common.{◌≡◌, ◌≢◌, ℕ, zero, suc, ◌+◌, ◌*◌, ◌<◌, ◌≤◌, List, [], ◌∷◌, ◌++◌, length, get_or, replicate, refl, sym, ap, ◌∙◌, subst, arith, Option, Some, None, Bool, true, false, inl, inr, ◌⊎◌, IsTrue, sum_by, nat_lt, nat_le, not, ◌&&◌, ◌==◌, ◌%◌, ◌^◌}
+use Rattle.std.proofs.Common.{◌≡◌, ℕ, zero, suc, ◌+◌, ◌*◌, ◌<◌, ◌≤◌, List, [], ◌∷◌, ◌++◌, length, get_or, replicate, refl, sym, ap, ◌∙◌, subst, arith, Option, None, Bool, true, false, inl, inr, sum_by, nat_lt, nat_le, not, ◌&&◌, ◌==◌, ◌%◌, ◌^◌}
 use Rattle.std.proofs.lemmas.Bool.Decides.{nat_tests}
 use Rattle.std.proofs.lemmas.Bool.{cases_lt}
 use Rattle.std.proofs.lemmas.List.{get_or-replicate, get_or_past, length-replicate}
@@ -7,7 +7,6 @@ use Rattle.std.proofs.lemmas.List.Sums.{sum_by-cons}
 use Rattle.tag_model.specs.declared.shape.Shape.{Shape}
 use Rattle.tag_model.specs.declared.state.Held.{Held}
 use Rattle.tag_model.specs.declared.state.Held.TheVariants as held
-use Rattle.tag_model.specs.declared.state.Kind.{Kind}
 use Rattle.tag_model.specs.declared.state.Kind.TheVariants.{Calls}
 use Rattle.tag_model.specs.declared.state.Part.{Part}
 use Rattle.tag_model.specs.declared.state.Part.TheVariants.{Cpu, Place, Modules, NextId}
@@ -17,9 +16,9 @@ use Rattle.tag_model.specs.WordState.{is_cpu, is_place, is_place_at, is_list, is
 use Rattle.tag_model.specs.Laws.{Safe, OneOfEach, SumLaw, CoverLaw, SweepLaw, list_fits, is_reading, cleared, same_run, same_note, runs_of_cpu}
 use Rattle.tag_model.specs.declared.state.Hand.{Hand}
 use Rattle.core_steps.specs.declared.op.TheConstants.{KEY_END}
-use Rattle.core_steps.specs.Machine.{Waiting, Machine, machine_of, nothing_waits, reserves}
+use Rattle.core_steps.specs.Machine.{Waiting, machine_of, nothing_waits, reserves}
 use Rattle.core_steps.specs.CoreState.{cpu_part, cpu_parts, place_parts, no_modules, state_of, IsCore, IsReadyAt}
-use Rattle.core_steps.proofs.Parts.{sum_both, length-cpu_parts}
+use Rattle.core_steps.proofs.Parts.{sum_both}
 
 zero_cpus : (f : Part → ℕ) (own : List ℕ) (n count : ℕ) → ((j : ℕ) → j < n + count → f (Cpu (cpu_part j None own)) ≡ 0) → sum_by f (cpu_parts n (replicate count None) (replicate count own)) ≡ 0
 zero_cpus f own n zero h = refl

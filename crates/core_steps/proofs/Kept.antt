@@ -1,5 +1,5 @@
 -- A core stays a core: what a step of a CPU leaves of the whole machine.
-use Rattle.std.proofs.Common.{◌≡◌, ◌≢◌, ℕ, zero, suc, ◌+◌, ◌*◌, ◌<◌, ◌≤◌, List, [], ◌∷◌, ◌++◌, length, get_or, set, refl, sym, ap, ◌∙◌, subst, arith, Option, Some, None, Bool, true, false, inl, inr, ◌⊎◌, IsTrue, IsOk, OnOk, OnErr, Result, Ok, Err, MatchOption, take, drop}
+use Rattle.std.proofs.Common.{◌≡◌, ◌≢◌, ℕ, ◌*◌, ◌<◌, ◌≤◌, List, [], ◌∷◌, ◌++◌, length, set, refl, sym, ap, ◌∙◌, subst, arith, Option, Some, None, true, false, inl, inr, OnOk, OnErr, Result, Ok, Err, MatchOption, take, drop}
 use Rattle.std.proofs.Math.Seq.{take-append_seam}
 use Rattle.core_steps.specs.declared.op.Event.{Event}
 use Rattle.core_steps.specs.declared.op.Event.TheVariants.{Stepped}
@@ -9,29 +9,16 @@ use Rattle.std.proofs.lemmas.Bool.Decides.{nat_tests}
 use Rattle.std.proofs.lemmas.Bool.{cases_eq, cases_lt}
 use Rattle.std.proofs.lemmas.List.{get_or-set_same, get_or-set_other, length-set, get_or_past}
 use Rattle.std.proofs.lemmas.List.Folds.{list_any_at}
-use Rattle.std.specs.List.{AllByRecursion}
 use Rattle.tag_model.specs.declared.shape.Shape.{Shape}
 use Rattle.tag_model.specs.declared.state.Hand.{Hand}
 use Rattle.tag_model.specs.declared.state.Held.{Held}
-use Rattle.tag_model.specs.declared.state.Held.TheVariants as held
-use Rattle.tag_model.specs.declared.state.Part.{Part}
-use Rattle.tag_model.specs.declared.state.Part.TheVariants.{Cpu, Place, Modules, NextId}
-use Rattle.tag_model.specs.Laws.{Safe}
-use Rattle.tag_model.specs.Shape.{IsChecked}
-use Rattle.tag_model.specs.StepRules.{Row, begins_allocation, adds_bytes, writes_place, BeginsAllocation, AddsBytes, WritesPlace, raised}
-use Rattle.tag_model.specs.declared.state.Tag.{Tag}
-use Rattle.tag_model.specs.declared.state.Kind.{Kind}
-use Rattle.tag_model.specs.declared.state.Kind.TheVariants.{Bytes, Calls}
-use Rattle.tag_model.specs.declared.limits.TheConstants.{SIZE_END}
-use Rattle.tag_model.proofs.CpuRows.{safe-begins_allocation, safe-adds_bytes}
-use Rattle.tag_model.proofs.PlaceRow.{safe-writes_place}
 use Rattle.core_steps.specs.declared.op.Op.{Op}
 use Rattle.core_steps.specs.declared.op.Op.TheVariants.{Open, Close, Split, Swap, Trim}
 use Rattle.core_steps.specs.declared.step.WordStep.{WordStep}
 use Rattle.core_steps.specs.declared.op.StepRefused.TheVariants.{NoStep}
 use Rattle.core_steps.specs.declared.op.TheConstants.{KEY_END}
-use Rattle.core_steps.specs.Machine.{Waiting, Machine, nothing_waits, reserves, names_key, held_at, hand_at, waiting_at, kernel_tag, step_of, hand_after, places_after, words_after, advanced, first_refusal, refusal_in, refusal_of, is_reserved, stepped_by, after_step, first_names, step_count, KeysFit, HasCall, CanTake, machine_of}
-use Rattle.core_steps.specs.CoreState.{CoreState, IsReady, IsReadyAt, IsMachine, IsCore, IsOpening, IsUnderWay, IsOp, opening_hand, words_at, words_stepped, words_after_step, state_of, word_state, no_modules, cpu_part, cpu_parts, place_parts, CanGo, CanStep, IsOpen}
+use Rattle.core_steps.specs.Machine.{Waiting, Machine, nothing_waits, reserves, names_key, hand_at, waiting_at, step_of, hand_after, words_after, advanced, first_refusal, refusal_in, refusal_of, stepped_by, after_step, step_count, KeysFit, HasCall, CanTake, machine_of}
+use Rattle.core_steps.specs.CoreState.{CoreState, IsReady, IsReadyAt, IsMachine, IsCore, IsUnderWay, IsOp, words_at, words_stepped, words_after_step, state_of, word_state, CanGo, CanStep}
 use Rattle.core_steps.proofs.Ready.{Next, next, others_ready, free_key}
 use Rattle.core_steps.proofs.Takes.{places_fit, leads_step, hand_seen, can_take, length-places_after, length-words_after}
 use Rattle.core_steps.proofs.Leads.{Leads}

@@ -1,5 +1,5 @@
 -- A core with one op more in a queue is a core.
-use Rattle.std.proofs.Common.{◌≡◌, ◌≢◌, ℕ, ◌+◌, ◌<◌, ◌≤◌, List, [], ◌∷◌, ◌++◌, length, get_or, set, refl, sym, ap, ◌∙◌, subst, arith, Option, Some, None, Bool, true, false, inl, inr, IsTrue, Result, Ok, Err, OnOk, OnErr}
+use Rattle.std.proofs.Common.{◌≡◌, ◌≢◌, ℕ, ◌<◌, List, [], ◌∷◌, ◌++◌, get_or, set, sym, ap, ◌∙◌, subst, arith, Option, true, inl, inr, Result, Ok, Err, OnOk, OnErr}
 use Rattle.std.proofs.lemmas.Bool.Decides.{nat_tests}
 use Rattle.std.proofs.lemmas.Bool.{cases_eq}
 use Rattle.std.proofs.lemmas.List.{get_or-set_same, get_or-set_other, length-set, set-get_or, get_or_default}
@@ -8,7 +8,7 @@ use Rattle.tag_model.specs.declared.state.Hand.{Hand}
 use Rattle.tag_model.specs.declared.state.Held.{Held}
 use Rattle.core_steps.specs.declared.op.Op.{Op}
 use Rattle.core_steps.specs.Machine.{Waiting, Machine, nothing_waits, reserves, hand_at, waiting_at}
-use Rattle.core_steps.specs.CoreState.{CoreState, IsReady, IsReadyAt, IsMachine, IsCore, IsOp, with_op, state_of}
+use Rattle.core_steps.specs.CoreState.{CoreState, IsReady, IsReadyAt, IsCore, IsOp, with_op, state_of}
 use Rattle.core_steps.proofs.Ready.{ready_first}
 
 all_queued : (n : ℕ) (ops : List Op) (op : Op) → AllByRecursion (IsOp n) ops → IsOp n op → AllByRecursion (IsOp n) (ops ++ op ∷ [])

@@ -1,5 +1,5 @@
 -- With no hand out, what is counted is what the places hold.
-use Rattle.std.proofs.Common.{◌≡◌, ℕ, zero, suc, ◌+◌, ◌<◌, ◌≤◌, List, [], ◌∷◌, ◌++◌, length, get_or, refl, sym, ap, ◌∙◌, subst, arith, Option, Some, None, sum_by}
+use Rattle.std.proofs.Common.{◌≡◌, ℕ, suc, ◌+◌, ◌<◌, List, [], ◌∷◌, ◌++◌, length, get_or, refl, sym, ap, ◌∙◌, arith, Option, None, sum_by}
 use Rattle.std.proofs.lemmas.List.Sums.{sum_by-cons, sum_by-append}
 use Rattle.tag_model.specs.declared.state.Hand.{Hand}
 use Rattle.tag_model.specs.declared.state.Held.{Held}
@@ -10,7 +10,6 @@ use Rattle.tag_model.specs.declared.state.Part.TheVariants.{Cpu, Place, Modules,
 use Rattle.tag_model.specs.Laws.{has_hand, hand_number, live_of, live_pair}
 use Rattle.tag_model.specs.Reference.{held_counts, live_total}
 use Rattle.tag_model.specs.Wrap.{wrap}
-use Rattle.tag_model.specs.WordState.{word_of, counted}
 use Rattle.tag_model.proofs.Live.{live_words}
 use Rattle.core_steps.specs.Machine.{hand_at}
 use Rattle.core_steps.specs.CoreState.{CoreState, IsCore, cpu_part, cpu_parts, place_parts, no_modules, state_of, word_state, total_of}
@@ -34,8 +33,14 @@ unfolding state_of
 quiet_totals s kind t core quiet =
     let cpus = cpu_parts 0 s.machine.hands s.words in let places = place_parts 0 s.machine.places in
     let quiet_hands : sum_by has_hand (cpus ++ (places ++ Modules no_modules ∷ NextId 1 ∷ [])) ≡ 0 =
-      omega (arith, sum_both has_hand cpus (places ++ Modules no_modules ∷ NextId 1 ∷ []), sum_both has_hand places (Modules no_modules ∷ NextId 1 ∷ []), sum_two has_hand (Modules no_modules) (NextId 1),
-        no_hands 0 s.machine.hands s.words (λ i below. quiet i (omega (arith, core.machine.hands))), no_place_hands 0 s.machine.places) in
+    omega (
+      arith,
+      sum_both has_hand cpus (places ++ Modules no_modules ∷ NextId 1 ∷ []),
+      sum_both has_hand places (Modules no_modules ∷ NextId 1 ∷ []),
+      sum_two has_hand (Modules no_modules) (NextId 1),
+      no_hands 0 s.machine.hands s.words (λ i below. quiet i (omega (arith, core.machine.hands))),
+      no_place_hands 0 s.machine.places,
+    ) in
     ap wrap (sym (sum_words s core kind t)) ∙ live_words s.shape (cpus ++ (places ++ Modules no_modules ∷ NextId 1 ∷ [])) kind t core.safe quiet_hands
 
 -- ---- the live list is that of the places
@@ -53,8 +58,13 @@ live_place kind t n (held.Counted tag size) = omega arith
 live_rest : (kind : Kind) (t n : ℕ) (places : List Held) → live_total kind t (live_of (place_parts n places ++ Modules no_modules ∷ NextId 1 ∷ [])) ≡ sum_by (held_counts kind t) places
 live_rest kind t n [] = refl
 live_rest kind t n (x ∷ places) =
-    omega (arith, live_place kind t n x, live_rest kind t (n + 1) places, sum_by-cons (held_counts kind t) x places,
-      sum_by-append (λ (entry : ℕ × Held). held_counts kind t entry.1) (live_pair (Place n x)) (live_of (place_parts (n + 1) places ++ Modules no_modules ∷ NextId 1 ∷ [])))
+    omega (
+      arith,
+      live_place kind t n x,
+      live_rest kind t (n + 1) places,
+      sum_by-cons (held_counts kind t) x places,
+      sum_by-append (λ (entry : ℕ × Held). held_counts kind t entry.1) (live_pair (Place n x)) (live_of (place_parts (n + 1) places ++ Modules no_modules ∷ NextId 1 ∷ [])),
+    )
 
 pub live_places : (s : CoreState) (kind : Kind) (t : ℕ) → live_total kind t (live_of (word_state s)) ≡ sum_by (held_counts kind t) s.machine.places
 unfolding state_of

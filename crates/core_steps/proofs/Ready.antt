@@ -1,24 +1,19 @@
 -- What a step of an op is and leaves: it is one of the step rules, its own CPU is ready for what comes next, and the places of other keys stay.
-use Rattle.std.proofs.Common.{◌≡◌, ◌≢◌, ℕ, zero, suc, ◌+◌, ◌<◌, ◌≤◌, ◌==◌, List, [], ◌∷◌, ◌++◌, length, get_or, set, refl, sym, ap, ◌∙◌, subst, arith, Option, Some, None, Bool, true, false, not, nat_lt, ◌||◌, ◌&&◌, inl, inr, ◌⊎◌, eqb-true, ltb-true}
+use Rattle.std.proofs.Common.{◌≡◌, ◌≢◌, ℕ, zero, suc, ◌+◌, ◌<◌, ◌≤◌, ◌==◌, List, [], ◌∷◌, length, set, refl, sym, ap, ◌∙◌, subst, arith, Option, None, Bool, true, false, not, nat_lt, ◌||◌, inl, inr, eqb-true, ltb-true}
 use Rattle.std.proofs.lemmas.Bool.{and_parts, or_cases}
 use Rattle.std.proofs.lemmas.Bool.Decides.{nat_tests}
 use Rattle.std.proofs.lemmas.List.{get_or-set_same, get_or-set_other}
 use Rattle.std.specs.List.{AllByRecursion}
 use Rattle.tag_model.specs.declared.shape.Shape.{Shape}
-use Rattle.tag_model.specs.declared.state.Tag.{Tag}
 use Rattle.tag_model.specs.declared.state.Hand.{Hand}
 use Rattle.tag_model.specs.declared.state.Held.{Held}
 use Rattle.tag_model.specs.declared.state.Held.TheVariants as held
-use Rattle.tag_model.specs.Reference.{held_fits, hand_counts_of, held_counts_of}
-use Rattle.tag_model.specs.declared.limits.TheConstants.{SIZE_END}
 use Rattle.core_steps.specs.declared.op.Op.{Op}
 use Rattle.core_steps.specs.declared.op.Op.TheVariants.{Open, Close, Split, Swap, Trim}
-use Rattle.core_steps.specs.declared.op.StepRefused.{StepRefused}
-use Rattle.core_steps.specs.declared.op.StepRefused.TheVariants.{KeyUsed, NotLive, TooSmall}
 use Rattle.core_steps.specs.declared.op.TheConstants.{KEY_END}
-use Rattle.core_steps.specs.Machine.{Waiting, reserves, names_key, held_at, kernel_tag, part_key, is_new_key, clear_step, with_call, step_of, hand_after, places_after, advanced, first_refusal, is_reserved, is_live, is_used, is_counted, holds_nothing, size_of, in_hand, put_down, bytes_in, with_bytes, less_bytes, step_count}
-use Rattle.core_steps.specs.CoreState.{IsReady, IsOpening, IsClosing, IsSplitting, IsSwapping, IsTrimming, IsUnderWay, IsOp, IsOpen, IsKey, IsSplit, IsSwap, IsTrim, HoldsReference, HoldsCall, HoldsParts, settled_hand, opening_hand}
-use Rattle.core_steps.proofs.Takes.{IsRuled, CanWrite, PlacesFit, InHand, CanAddCall}
+use Rattle.core_steps.specs.Machine.{Waiting, reserves, names_key, held_at, kernel_tag, part_key, is_new_key, clear_step, with_call, step_of, hand_after, places_after, advanced, first_refusal, is_reserved, is_live, is_counted, holds_nothing, size_of, in_hand, put_down, bytes_in, with_bytes}
+use Rattle.core_steps.specs.CoreState.{IsReady, IsOpening, IsClosing, IsSplitting, IsSwapping, IsTrimming, IsUnderWay, IsOp, IsOpen, IsKey, IsSplit, IsSwap, IsTrim, HoldsParts}
+use Rattle.core_steps.proofs.Takes.{IsRuled, CanWrite, PlacesFit}
 use Rattle.core_steps.proofs.Splits.{names_part, parts_apart, part_below, part_later, new_key_means, split_passes, SplitPasses, unused_key, first_parts, rest_hand, share_written, can_share, rest_holds, rest_none}
 use Rattle.std.proofs.lemmas.Bool.{cases_eq, cases_lt}
 use Rattle.core_steps.specs.declared.step.WordStep.{WordStep}

@@ -1,6 +1,6 @@
 -- The steps of a split, from its first to its last: a call more for each part but one, and no byte.
-use Rattle.std.proofs.Common.{◌≡◌, ◌≢◌, ℕ, zero, suc, ◌+◌, ◌-◌, ◌*◌, ◌<◌, ◌≤◌, ◌==◌, nat_lt, List, [], ◌∷◌, ◌++◌, length, get_or, set, replicate, refl, sym, ap, ◌∙◌, subst, arith, Option, Some, None, Bool, true, false, cond, inl, inr, sum_by}
-use Rattle.std.proofs.lemmas.Bool.{cases_eq, cases_lt}
+use Rattle.std.proofs.Common.{◌≡◌, ◌≢◌, ℕ, zero, suc, ◌+◌, ◌-◌, ◌*◌, ◌<◌, ◌≤◌, ◌==◌, nat_lt, List, [], ◌∷◌, ◌++◌, set, replicate, refl, sym, ap, ◌∙◌, subst, arith, Option, Some, None, Bool, true, false, cond, inl, inr, sum_by}
+use Rattle.std.proofs.lemmas.Bool.{cases_lt}
 use Rattle.std.proofs.lemmas.Bool.Decides.{nat_tests}
 use Rattle.std.proofs.lemmas.List.Sums.{sum_by-set}
 use Rattle.std.proofs.Math.Nat.{suc-mul}
@@ -14,18 +14,16 @@ use Rattle.tag_model.specs.declared.state.Kind.TheVariants.{Bytes, Calls}
 use Rattle.tag_model.specs.Moves.{Move}
 use Rattle.tag_model.specs.Laws.{live_of}
 use Rattle.tag_model.specs.Reference.{amount, hand_counts, held_counts, live_total}
-use Rattle.tag_model.specs.WordState.{word_of}
 use Rattle.tag_model.proofs.PlaceRow.{counts_stay}
 use Rattle.core_steps.specs.declared.op.Op.{Op}
 use Rattle.core_steps.specs.declared.op.Op.TheVariants.{Open, Close, Split, Swap, Trim}
-use Rattle.core_steps.specs.declared.op.Actor.{Actor}
 use Rattle.core_steps.specs.declared.op.Actor.TheVariants as actor
 use Rattle.core_steps.specs.declared.step.WordStep.{WordStep}
 use Rattle.core_steps.specs.declared.step.WordStep.TheVariants.{AddCall, Write}
-use Rattle.core_steps.specs.Machine.{Waiting, Machine, waiting_at, hand_at, held_at, in_hand, is_counted, part_key, clear_step, share_step, step_of, hand_after, places_after, with_call, moves_in, moves_of, moves_of_step}
-use Rattle.core_steps.specs.CoreState.{CoreState, IsCore, IsReady, IsSplitting, HoldsParts, settled_hand, stepped, run_of, word_state}
+use Rattle.core_steps.specs.Machine.{Waiting, Machine, waiting_at, hand_at, held_at, in_hand, is_counted, part_key, clear_step, step_of, hand_after, places_after, with_call, moves_in, moves_of, moves_of_step}
+use Rattle.core_steps.specs.CoreState.{CoreState, IsCore, IsReady, settled_hand, stepped, word_state}
 use Rattle.core_steps.specs.Laws.{Begins, waits_for, after_steps, moves_of_run, call_move}
-use Rattle.core_steps.proofs.Takes.{IsRuled, CanWrite}
+use Rattle.core_steps.proofs.Takes.{IsRuled}
 use Rattle.core_steps.proofs.Splits.{rest_hand, share_written, split_passes}
 use Rattle.core_steps.proofs.Runs.{run_shape, stepped_shape}
 use Rattle.std.proofs.lemmas.Bool.{and_parts}
@@ -84,7 +82,6 @@ moves_known m cpu op ops done step hand waits is held =
 
 module _ (s : CoreState) (cpu key parts first done : ℕ) (ops : List Op) (tag : Tag) (waits : waiting_at s.machine cpu ≡ waits_for (Split key parts first) ops done)
     (t : Stepped s cpu (Split key parts first) ops done) where
-
   -- the step is known
   known_hand : (step : WordStep) → step_of (Split key parts first) done (hand_at s.machine cpu) s.machine.places ≡ step → hand_at (stepped s (actor.Cpu cpu)).machine cpu ≡ hand_after step (hand_at s.machine cpu)
   known_hand step is = t.hand ∙ ap (λ (x : WordStep). hand_after x (hand_at s.machine cpu)) is
@@ -107,18 +104,18 @@ module _ (s : CoreState) (cpu key parts first done : ℕ) (ops : List Op) (tag :
       let r = t.ready.0.counting some (omega arith) in
       let same : r.tag ≡ tag = tagged (record { tag = r.tag; bytes = parts * r.size; calls = done; opening = false }) r.held in
       let is : step_of (Split key parts first) done (hand_at s.machine cpu) s.machine.places ≡ AddCall =
-        let z : (done == 0) ≡ false = grind (arith, nat_tests) in let l : nat_lt done parts ≡ true = grind (arith, nat_tests) in rw (z, l) refl in
+      let z : (done == 0) ≡ false = grind (arith, nat_tests) in let l : nat_lt done parts ≡ true = grind (arith, nat_tests) in rw (z, l) refl in
       let l : nat_lt done parts ≡ true = grind (arith, nat_tests) in
       let after = known_hand AddCall is ∙ ap with_call r.held in
       record {
         moves = moves_known s.machine cpu (Split key parts first) ops done AddCall (settled_hand r.tag (parts * r.size) done) waits is r.held ∙ rw (l, same) refl;
         counts = λ kind u.
-          let hand = ap (hand_counts kind u) r.held in
-          let next = ap (hand_counts kind u) after in
-          let places = ap (λ (xs : List Held). sum_by (held_counts kind u) xs) (known_places AddCall is) in
-          let more_calls = call_adds kind (r.tag.number == u) (parts * r.size) done in
-          let tags = ap (call_counts kind u) same in
-          rw l (omega arith);
+            let hand = ap (hand_counts kind u) r.held in
+            let next = ap (hand_counts kind u) after in
+            let places = ap (λ (xs : List Held). sum_by (held_counts kind u) xs) (known_places AddCall is) in
+            let more_calls = call_adds kind (r.tag.number == u) (parts * r.size) done in
+            let tags = ap (call_counts kind u) same in
+            rw l (omega arith);
         tagged = λ h has. let e : with_call (settled_hand r.tag (parts * r.size) done) ≡ Some h = sym after ∙ has in let f : r.tag ≡ h.tag = cc in sym f ∙ same;
       }
 
@@ -132,7 +129,7 @@ module _ (s : CoreState) (cpu key parts first done : ℕ) (ops : List Op) (tag :
       let same : r.tag ≡ tag = tagged (record { tag = r.tag; bytes = left * r.size; calls = left; opening = false }) r.held in
       let l : nat_lt done parts ≡ false = grind (arith, nat_tests) in
       let is : step_of (Split key parts first) done (hand_at s.machine cpu) s.machine.places ≡ Write at (held.Counted r.tag r.size) (rest_hand r.tag r.size left) =
-        let z : (done == 0) ≡ false = grind (arith, nat_tests) in rw (z, l) (share_written at left (hand_at s.machine cpu) r (omega arith)) in
+      let z : (done == 0) ≡ false = grind (arith, nat_tests) in rw (z, l) (share_written at left (hand_at s.machine cpu) r (omega arith)) in
       record {
         moves = moves_known s.machine cpu (Split key parts first) ops done (Write at (held.Counted r.tag r.size) (rest_hand r.tag r.size left)) (hand_at s.machine cpu) waits is refl ∙ rw l refl;
         counts = λ kind u. let kept = written at (held.Counted r.tag r.size) (rest_hand r.tag r.size left) is kind u in rw l (omega arith);
@@ -140,7 +137,19 @@ module _ (s : CoreState) (cpu key parts first done : ℕ) (ops : List Op) (tag :
       }
 
   later : 0 < done → IsTagged tag (hand_at s.machine cpu) → SplitStep s cpu parts done tag
-  later some tagged = elim (cases_lt done parts) [ | inl more ↦ adds some more tagged | inr past ↦ writes past tagged ]
+  later some tagged = elim (cases_lt done parts) [ inl more ↦ adds some more tagged | inr past ↦ writes past tagged ]
+
+pub first_moves : (s : CoreState) (cpu key parts first : ℕ) (ops : List Op) → waiting_at s.machine cpu ≡ waits_for (Split key parts first) ops 0 → moves_of_step s.machine cpu ≡ []
+first_moves s cpu key parts first ops waits = moves_known s.machine cpu (Split key parts first) ops 0 (clear_step key s.machine.places) (hand_at s.machine cpu) waits refl refl
+
+pub later_moves : (s : CoreState) (cpu key parts first done : ℕ) (hand : Hand) (ops : List Op) → IsCore s → waiting_at s.machine cpu ≡ waits_for (Split key parts first) ops done → hand_at s.machine cpu ≡ Some hand
+    → moves_of_step s.machine cpu ≡ cond (nat_lt done parts) (call_move cpu hand.tag ∷ []) []
+later_moves s cpu key parts first done hand ops core waits held =
+    let below = waits_below s.machine cpu (Split key parts first) ops done waits in
+    let ready = ready_at s cpu (Split key parts first ∷ ops) done core (omega (arith, core.machine.waiting)) waits in
+    let later_on : done ≢ 0 = λ e. let none : hand_at s.machine cpu ≡ None = ready.0.start e in cc in
+    let t = takes_step s cpu (Split key parts first) ops done core waits (later_free s.machine (Split key parts first) ops done later_on) in
+    (later s cpu key parts first done ops hand.tag waits t (omega arith) (λ h has. let e : hand ≡ h = cc in ap (λ (x : Hand). x.tag) (sym e))).moves
 
 -- ---- the rest of a split
 
@@ -153,17 +162,17 @@ record SplitRest (s : CoreState) (cpu parts done left : ℕ) (ops : List Op) (ta
 moves_more : (cpu parts done : ℕ) (tag : Tag) (one rest : List Move) → one ≡ cond (nat_lt done parts) (call_move cpu tag ∷ []) [] → rest ≡ replicate (parts - (done + 1)) (call_move cpu tag)
     → one ++ rest ≡ replicate (parts - done) (call_move cpu tag)
 moves_more cpu parts done tag one rest first then = elim (cases_lt done parts) [
-    | inl more ↦ let l : nat_lt done parts ≡ true = grind (arith, nat_tests) in let e : parts - done ≡ suc (parts - (done + 1)) = omega arith in rw (first, l, then, e) refl
-    | inr past ↦ let l : nat_lt done parts ≡ false = grind (arith, nat_tests) in let e : parts - done ≡ parts - (done + 1) = omega arith in rw (first, l, then, e) refl
-    ]
+  | inl more ↦ let l : nat_lt done parts ≡ true = grind (arith, nat_tests) in let e : parts - done ≡ suc (parts - (done + 1)) = omega arith in rw (first, l, then, e) refl
+  | inr past ↦ let l : nat_lt done parts ≡ false = grind (arith, nat_tests) in let e : parts - done ≡ parts - (done + 1) = omega arith in rw (first, l, then, e) refl
+]
 
 counts_more : (parts done was now end each : ℕ) → now ≡ was + cond (nat_lt done parts) 1 0 * each → end ≡ now + (parts - (done + 1)) * each → end ≡ was + (parts - done) * each
 counts_more parts done was now end each first then = elim (cases_lt done parts) [
-    | inl more ↦ let l : nat_lt done parts ≡ true = grind (arith, nat_tests) in let e : parts - done ≡ suc (parts - (done + 1)) = omega arith in
+  | inl more ↦ let l : nat_lt done parts ≡ true = grind (arith, nat_tests) in let e : parts - done ≡ suc (parts - (done + 1)) = omega arith in
       let f : now ≡ was + 1 * each = rw l at first in rw e (let m = suc-mul (parts - (done + 1)) each in omega arith)
-    | inr past ↦ let l : nat_lt done parts ≡ false = grind (arith, nat_tests) in let e : parts - done ≡ parts - (done + 1) = omega arith in
+  | inr past ↦ let l : nat_lt done parts ≡ false = grind (arith, nat_tests) in let e : parts - done ≡ parts - (done + 1) = omega arith in
       let f : now ≡ was + 0 * each = rw l at first in rw e (omega arith)
-    ]
+]
 
 split_rest : (left : ℕ) (s : CoreState) (cpu key parts first done : ℕ) (ops : List Op) (tag : Tag) → IsCore s → waiting_at s.machine cpu ≡ waits_for (Split key parts first) ops done → 0 < done → 2 ≤ parts
     → done + suc left ≡ 2 * parts → IsTagged tag (hand_at s.machine cpu) → SplitRest s cpu parts done (suc left) ops tag
@@ -211,7 +220,7 @@ whole s cpu key parts first size tag ops core b is =
     let after = stepped s (actor.Cpu cpu) in
     let clear = clear_step key s.machine.places in
     let tagged : IsTagged tag (hand_at after.machine cpu) =
-      λ h has. taken_tag tag size (held_at s.machine.places key) is h (sym (known_hand s cpu key parts first 0 ops tag b.waits t clear refl) ∙ has) in
+    λ h has. taken_tag tag size (held_at s.machine.places key) is h (sym (known_hand s cpu key parts first 0 ops tag b.waits t clear refl) ∙ has) in
     let rest = split_rest left after cpu key parts first 1 ops tag t.core (t.waits ∙ goes_on (Split key parts first) ops 0 (omega arith)) (omega arith) two (omega arith) tagged in
     let none : moves_of_step s.machine cpu ≡ [] = moves_known s.machine cpu (Split key parts first) ops 0 clear (hand_at s.machine cpu) b.waits refl refl in
     let below = waits_below s.machine cpu (Split key parts first) ops 0 b.waits in
@@ -223,10 +232,10 @@ whole s cpu key parts first size tag ops core b is =
     record {
       moves = rw all (rw none rest.moves);
       counts = λ kind u. rw all
-        (let kept = written s cpu key parts first 0 ops tag b.waits t key held.None (in_hand (held_at s.machine.places key)) refl kind u in
-         let before = no_hand_balance s cpu kind u first_free in
-         let at_end = no_hand_balance end cpu kind u last_free in
-         let counted = rest.counts kind u in omega arith);
+          (let kept = written s cpu key parts first 0 ops tag b.waits t key held.None (in_hand (held_at s.machine.places key)) refl kind u in
+          let before = no_hand_balance s cpu kind u first_free in
+          let at_end = no_hand_balance end cpu kind u last_free in
+          let counted = rest.counts kind u in omega arith);
     }
 
 no_bytes : (b : Bool) (n : ℕ) → n * cond {A = ℕ} b 0 0 ≡ 0

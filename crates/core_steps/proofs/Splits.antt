@@ -1,7 +1,7 @@
 -- A split: the keys of its parts are apart, and what is in hand goes into them in equal shares.
-use Rattle.std.proofs.Common.{◌≡◌, ◌≢◌, ℕ, zero, suc, ◌+◌, ◌-◌, ◌*◌, ◌/◌, ◌%◌, ◌<◌, ◌≤◌, ◌==◌, ◌&&◌, ◌||◌, nat_lt, nat_le, List, [], ◌∷◌, length, get_or, set, refl, sym, ap, ◌∙◌, subst, arith, Option, Some, None, Bool, true, false, not, cond, find, if◌then◌else◌, inl, inr, ltb-true, lt-ltb, leb-true, le-leb, eqb-true, eq-eqb}
+use Rattle.std.proofs.Common.{◌≡◌, ◌≢◌, ℕ, zero, suc, ◌+◌, ◌-◌, ◌*◌, ◌/◌, ◌%◌, ◌<◌, ◌≤◌, ◌==◌, ◌||◌, nat_lt, nat_le, List, refl, sym, ap, ◌∙◌, subst, arith, Option, Some, None, Bool, true, false, not, cond, find, if◌then◌else◌, inl, inr, ltb-true, lt-ltb, leb-true, le-leb, eqb-true}
 use Rattle.std.proofs.Math.Nat.{mul-div_cancel_left, suc-mul}
-use Rattle.std.proofs.lemmas.Bool.{and_parts, and_from, cases_eq, not-true}
+use Rattle.std.proofs.lemmas.Bool.{and_parts, and_from, cases_eq}
 use Rattle.std.proofs.lemmas.Bool.Decides.{nat_tests}
 use Rattle.std.specs.List.{range_with_len}
 use Rattle.tag_model.specs.declared.state.Tag.{Tag}
@@ -12,15 +12,12 @@ use Rattle.tag_model.specs.declared.state.Kind.{Kind}
 use Rattle.tag_model.specs.declared.state.Kind.TheVariants.{Bytes, Calls}
 use Rattle.tag_model.specs.declared.limits.TheConstants.{SIZE_END, MAX_HAND_CALLS}
 use Rattle.tag_model.specs.Reference.{amount, same_tag, hand_counts_of, held_counts_of, held_fits, hand_fits, is_settled}
-use Rattle.tag_model.proofs.CpuFits.{HandFits, hand_fits_from}
-use Rattle.core_steps.specs.declared.op.Op.{Op}
+use Rattle.tag_model.proofs.CpuFits.{hand_fits_from}
 use Rattle.core_steps.specs.declared.op.Op.TheVariants.{Split}
 use Rattle.core_steps.specs.declared.op.StepRefused.{StepRefused}
-use Rattle.core_steps.specs.declared.op.StepRefused.TheVariants.{NotLive, KeyUsed, Uneven}
 use Rattle.core_steps.specs.declared.op.TheConstants.{KEY_END}
-use Rattle.core_steps.specs.declared.step.WordStep.{WordStep}
 use Rattle.core_steps.specs.declared.step.WordStep.TheVariants.{Write}
-use Rattle.core_steps.specs.Machine.{Waiting, in_hand, bytes_in, size_of, is_counted, is_used, is_live, is_reserved, holds_nothing, held_at, part_key, is_new_key, new_keys, used_key, unless_used, names_key, share_step, split_refusal}
+use Rattle.core_steps.specs.Machine.{Waiting, in_hand, bytes_in, size_of, is_counted, is_used, is_live, is_reserved, holds_nothing, held_at, part_key, is_new_key, unless_used, names_key, share_step, split_refusal}
 use Rattle.core_steps.specs.CoreState.{HoldsParts, IsSplit, settled_hand}
 use Rattle.core_steps.proofs.Takes.{CanWrite}
 use Rattle.core_steps.proofs.Hands.{taken, bytes_taken, passes}

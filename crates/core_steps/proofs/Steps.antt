@@ -1,16 +1,13 @@
 -- Steps of one CPU, one after another, to the end of an op.
-use Rattle.std.proofs.Common.{◌≡◌, ◌≢◌, ℕ, zero, suc, ◌+◌, ◌*◌, ◌<◌, ◌≤◌, ◌==◌, List, [], ◌∷◌, length, get_or, replicate, refl, sym, ap, ◌∙◌, subst, arith, Option, Some, None, Bool, true, false, inl, inr}
-use Rattle.std.proofs.lemmas.Bool.{cases_eq, cases_lt}
+use Rattle.std.proofs.Common.{◌≡◌, ◌≢◌, ℕ, zero, suc, ◌+◌, ◌<◌, ◌==◌, List, [], ◌∷◌, length, refl, sym, ap, ◌∙◌, subst, arith, None, true, false, inl, inr}
+use Rattle.std.proofs.lemmas.Bool.{cases_lt}
 use Rattle.std.proofs.lemmas.Bool.Decides.{nat_tests}
 use Rattle.std.proofs.lemmas.List.{get_or-set_same, get_or_past}
-use Rattle.tag_model.specs.declared.state.Hand.{Hand}
-use Rattle.tag_model.specs.declared.state.Held.{Held}
 use Rattle.core_steps.specs.declared.op.Op.{Op}
 use Rattle.core_steps.specs.declared.op.Op.TheVariants.{Open, Close, Split, Swap, Trim}
-use Rattle.core_steps.specs.declared.op.Actor.{Actor}
 use Rattle.core_steps.specs.declared.op.Actor.TheVariants as actor
-use Rattle.core_steps.specs.Machine.{Waiting, Machine, nothing_waits, waiting_at, hand_at, step_of, hand_after, places_after, advanced, step_count, after_step, stepped_by, machine_after, refusal_in, refusal_of, first_refusal}
-use Rattle.core_steps.specs.CoreState.{CoreState, IsCore, IsReady, IsOp, refused, stepped, run_of}
+use Rattle.core_steps.specs.Machine.{Waiting, Machine, nothing_waits, waiting_at, hand_at, step_of, hand_after, places_after, advanced, step_count, after_step, stepped_by, refusal_in, refusal_of}
+use Rattle.core_steps.specs.CoreState.{CoreState, IsCore, IsReady, IsOp, stepped}
 use Rattle.core_steps.specs.Laws.{Begins, waits_for, after_steps}
 use Rattle.core_steps.proofs.Ready.{Next}
 use Rattle.core_steps.proofs.Kept.{gone, next_at, first_passes}
@@ -18,9 +15,9 @@ use Rattle.core_steps.proofs.Kept.{gone, next_at, first_passes}
 -- a CPU that waits for an op is one of the machine
 pub waits_below : (m : Machine) (cpu : ℕ) (op : Op) (ops : List Op) (done : ℕ) → waiting_at m cpu ≡ waits_for op ops done → cpu < length m.waiting
 waits_below m cpu op ops done waits = elim (cases_lt cpu (length m.waiting)) [
-    | inl l ↦ l
-    | inr past ↦ let none : [] ≡ op ∷ ops = sym (ap (λ (w : Waiting). w.ops) (get_or_past m.waiting cpu nothing_waits past)) ∙ ap (λ (w : Waiting). w.ops) waits in cc
-    ]
+  | inl l ↦ l
+  | inr past ↦ let none : [] ≡ op ∷ ops = sym (ap (λ (w : Waiting). w.ops) (get_or_past m.waiting cpu nothing_waits past)) ∙ ap (λ (w : Waiting). w.ops) waits in cc
+]
 
 pub later_free : (m : Machine) (op : Op) (ops : List Op) (done : ℕ) → done ≢ 0 → refusal_in m (op ∷ ops) done ≡ None
 later_free m op ops done later = let t : (done == 0) ≡ false = grind (arith, nat_tests) in rw t refl

@@ -1,5 +1,5 @@
 -- Each step that a CPU takes on a word or a place is one of the step rules, and leads the whole state on.
-use Rattle.std.proofs.Common.{◌≡◌, ℕ, ◌+◌, ◌*◌, ◌<◌, ◌≤◌, List, [], ◌∷◌, ◌++◌, length, get_or, set, refl, sym, ap, ◌∙◌, subst, arith, Option, Some, None, Bool, true, false, inl, inr, sum_by}
+use Rattle.std.proofs.Common.{◌≡◌, ℕ, ◌+◌, ◌*◌, ◌<◌, ◌≤◌, List, [], ◌∷◌, ◌++◌, length, set, refl, subst, arith, Option, Some, None, true, false, inl, inr}
 use Rattle.std.proofs.lemmas.Bool.Decides.{nat_tests}
 use Rattle.std.proofs.lemmas.Bool.{cases_lt}
 use Rattle.std.proofs.lemmas.List.{length-set, get_or_past}
@@ -24,10 +24,10 @@ use Rattle.tag_model.proofs.PlaceRow.{safe-writes_place}
 use Rattle.tag_model.proofs.Swept.{covered_below, part_passes}
 use Rattle.core_steps.specs.declared.step.WordStep.{WordStep}
 use Rattle.core_steps.specs.declared.step.WordStep.TheVariants.{BeginAllocation, AddBytes, AddCall, SubtractBytes, SubtractCall, Write}
-use Rattle.core_steps.specs.Machine.{Machine, hand_at, held_at, hand_after, places_after, words_after, raised_in_hand, lowered_in_hand, with_bytes, with_call, less_bytes, less_call, CanTake, HandInWords, HasRoom, HasBytes, HasCall}
+use Rattle.core_steps.specs.Machine.{Machine, hand_at, held_at, hand_after, places_after, words_after, raised_in_hand, lowered_in_hand, with_bytes, with_call, less_bytes, CanTake, HandInWords, HasRoom, HasBytes, HasCall}
 use Rattle.core_steps.specs.CoreState.{words_at, state_of, no_modules, cpu_part, cpu_parts, place_parts}
 use Rattle.core_steps.proofs.Parts.{becomes_first, length-cpu_parts, get_or-cpu_parts, get_or-place_parts, length-place_parts, sum_both, sum_without}
-use Rattle.core_steps.proofs.Leads.{Leads, Keeps, leads_cpu, leads_place}
+use Rattle.core_steps.proofs.Leads.{Leads, leads_cpu, leads_place}
 
 -- ---- a step may be taken by the step rules
 

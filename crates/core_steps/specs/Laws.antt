@@ -1,5 +1,5 @@
 -- What is said of many steps of a core.
-use Rattle.std.specs.Prelude.{◌≡◌, ℕ, ◌<◌, ◌++◌, List, [], ◌∷◌, Option, None, replicate}
+use Rattle.std.specs.Prelude.{◌≡◌, ℕ, ◌++◌, List, [], ◌∷◌, None, replicate}
 use Rattle.tag_model.specs.declared.state.Tag.{Tag}
 use Rattle.tag_model.specs.declared.state.Kind.TheVariants.{Calls}
 use Rattle.tag_model.specs.Moves.{Move}

@@ -1,20 +1,17 @@
 -- The machine without its words: hands by CPU, places by key, and the ops of each CPU.
-use Rattle.std.specs.Prelude.{◌≡◌, ◌≢◌, ℕ, ◌+◌, ◌-◌, ◌*◌, ◌<◌, ◌≤◌, ◌==◌, ◌&&◌, ◌||◌, not, nat_lt, nat_le, ◌/◌, ◌%◌, find, Bool, true, false, IsTrue, if◌then◌else◌, Option, Some, None, List, [], ◌∷◌, ◌++◌, length, slice_index, slice_set, slice_index_or, replicate}
+use Rattle.std.specs.Prelude.{ℕ, ◌+◌, ◌-◌, ◌*◌, ◌<◌, ◌≤◌, ◌==◌, ◌&&◌, ◌||◌, not, nat_lt, nat_le, ◌/◌, ◌%◌, find, Bool, true, false, if◌then◌else◌, Option, Some, None, List, [], ◌∷◌, slice_set, slice_index_or}
 use Rattle.std.specs.List.{list_any, range_with_len}
-use Rattle.tag_model.specs.declared.shape.Shape.{Shape}
 use Rattle.tag_model.specs.declared.state.Tag.{Tag}
 use Rattle.tag_model.specs.declared.state.Hand.{Hand}
 use Rattle.tag_model.specs.declared.state.Held.{Held}
 use Rattle.tag_model.specs.declared.state.Held.TheVariants as held
 use Rattle.tag_model.specs.declared.state.Kind.{Kind}
 use Rattle.tag_model.specs.declared.state.Kind.TheVariants.{Bytes, Calls}
-use Rattle.tag_model.specs.declared.limits.TheConstants.{SIZE_END, MAX_HAND_CALLS}
+use Rattle.tag_model.specs.declared.limits.TheConstants.{MAX_HAND_CALLS}
 use Rattle.tag_model.specs.Moves.{Move}
 use Rattle.tag_model.specs.StepRules.{raised, lowered, without_call}
 use Rattle.core_steps.specs.declared.op.Op.{Op}
 use Rattle.core_steps.specs.declared.op.Op.TheVariants.{Open, Close, Split, Swap, Trim}
-use Rattle.core_steps.specs.declared.op.Actor.{Actor}
-use Rattle.core_steps.specs.declared.op.Actor.TheVariants as actor
 use Rattle.core_steps.specs.declared.op.StepRefused.{StepRefused}
 use Rattle.core_steps.specs.declared.op.StepRefused.TheVariants.{NoStep, NotLive, KeyUsed, Uneven, TooSmall}
 use Rattle.core_steps.specs.declared.op.TheConstants.{KEY_END}

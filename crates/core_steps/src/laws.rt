@@ -1,9 +1,10 @@
 //! Laws of every core. The functions do nothing: what they promise are facts of the definitions.
 
-ghost use Rattle.std.specs.Prelude.{◌≡◌, ℕ, ◌+◌, ◌-◌, ◌*◌, ◌<◌, ◌==◌, if◌then◌else◌, List, None, replicate};
+ghost use Rattle.std.specs.Prelude.{◌≡◌, ℕ, ◌+◌, ◌-◌, ◌*◌, ◌<◌, ◌==◌, if◌then◌else◌, nat_lt, List, [], ◌∷◌, Some, None, replicate};
 ghost use Rattle.tag_model.specs.Laws.{live_of};
 ghost use Rattle.tag_model.specs.Reference.{live_total};
 ghost use Rattle.tag_model.specs.Wrap.{wrap};
+ghost use Rattle.tag_model.specs.declared.state.Hand.{Hand};
 ghost use Rattle.tag_model.specs.declared.state.Held.TheVariants as held;
 ghost use Rattle.tag_model.specs.declared.state.Kind.{Kind};
 ghost use Rattle.tag_model.specs.declared.state.Kind.TheVariants.{Bytes, Calls};
@@ -11,7 +12,7 @@ ghost use Rattle.tag_model.specs.declared.state.Tag.{Tag};
 ghost use Rattle.core_steps.specs.declared.op.Op.{Op};
 ghost use Rattle.core_steps.specs.declared.op.Op.TheVariants.{Open, Close, Split, Swap, Trim};
 ghost use Rattle.core_steps.specs.declared.op.Actor.TheVariants as actor;
-ghost use Rattle.core_steps.specs.Machine.{hand_at, held_at, waiting_at, step_count};
+ghost use Rattle.core_steps.specs.Machine.{hand_at, held_at, waiting_at, step_count, moves_of_step};
 ghost use Rattle.core_steps.specs.CoreState.{CoreState, IsCore, refused, word_state, total_of};
 ghost use Rattle.core_steps.specs.Laws.{Begins, waits_for, after_steps, moves_of_run, call_move};
 
@@ -26,21 +27,23 @@ pub fn step_counts_are_exact()
     ensures under_way { (s : CoreState) (cpu i : ℕ) (op : Op) (ops : List Op) → IsCore s → Begins s cpu op ops → i < step_count op → waiting_at (after_steps s cpu i).machine cpu ≡ waits_for op ops i }
     ensures unrefused { (s : CoreState) (cpu i : ℕ) (op : Op) (ops : List Op) → IsCore s → Begins s cpu op ops → i < step_count op → refused (after_steps s cpu i) (actor.Cpu cpu) ≡ None }
     ensures ended { (s : CoreState) (cpu : ℕ) (op : Op) (ops : List Op) → IsCore s → Begins s cpu op ops → waiting_at (after_steps s cpu (step_count op)).machine cpu ≡ record { ops = ops; done = 0 } }
-{
-}
+{}
 
 /// Where no CPU has a hand, the words of a tag, added over the CPUs, are the bytes and the references that its
 /// places hold, modulo 2^64.
 pub fn quiet_totals_are_those_of_the_live_list()
     ensures { (s : CoreState) (kind : Kind) (t : ℕ) → IsCore s → ((cpu : ℕ) → cpu < s.shape.cpus → hand_at s.machine cpu ≡ None) → total_of s.words kind t ≡ wrap (live_total kind t (live_of (word_state s))) }
-{
-}
+{}
 
 /// The steps of a split into k parts count k - 1 calls more, and no byte: so do the CPU's words, and so do the
 /// references that are live before it and after it.
 pub fn a_split_adds_calls_and_no_bytes()
+    // Whatever other CPUs do in between, its first step counts nothing, and each later one with the hand's tag a
+    // call while calls are added.
+    ensures first_step { (s : CoreState) (cpu key parts first : ℕ) (ops : List Op) → waiting_at s.machine cpu ≡ waits_for (Split key parts first) ops 0 → moves_of_step s.machine cpu ≡ [] }
+    ensures later_steps { (s : CoreState) (cpu key parts first done : ℕ) (hand : Hand) (ops : List Op) → IsCore s → waiting_at s.machine cpu ≡ waits_for (Split key parts first) ops done → hand_at s.machine cpu ≡ Some hand → moves_of_step s.machine cpu ≡ (if nat_lt done parts then call_move cpu hand.tag ∷ [] else []) }
+    // All its steps, one after another.
     ensures moves { (s : CoreState) (cpu key parts first size : ℕ) (tag : Tag) (ops : List Op) → IsCore s → Begins s cpu (Split key parts first) ops → held_at s.machine.places key ≡ held.Counted tag size → moves_of_run s (replicate (2 * parts) (actor.Cpu cpu)) ≡ replicate (parts - 1) (call_move cpu tag) }
     ensures bytes { (s : CoreState) (cpu key parts first t : ℕ) (ops : List Op) → IsCore s → Begins s cpu (Split key parts first) ops → live_total Bytes t (live_of (word_state (after_steps s cpu (2 * parts)))) ≡ live_total Bytes t (live_of (word_state s)) }
     ensures calls { (s : CoreState) (cpu key parts first size t : ℕ) (tag : Tag) (ops : List Op) → IsCore s → Begins s cpu (Split key parts first) ops → held_at s.machine.places key ≡ held.Counted tag size → live_total Calls t (live_of (word_state (after_steps s cpu (2 * parts)))) ≡ live_total Calls t (live_of (word_state s)) + (if tag.number == t then parts - 1 else 0) }
-{
-}
+{}

@@ -9,4 +9,6 @@ mod pending;
 mod refusal;
 pub mod run;
 mod step;
+#[cfg(test)]
+mod tests;
 mod words;

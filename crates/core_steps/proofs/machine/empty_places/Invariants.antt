@@ -1,4 +1,4 @@
-use Rattle.std.proofs.Common.{◌≡◌, ℕ, ◌*◌, None, replicate}
+use Rattle.std.proofs.Common.{◌≡◌, replicate}
 use Rattle.tag_model.specs.declared.state.Held.TheVariants as held
 use Rattle.core_steps.proofs.machine.empty_places.Given as goal
 

@@ -1,4 +1,4 @@
-use Rattle.std.proofs.Common.{◌≡◌, ℕ, ◌*◌, None, replicate}
+use Rattle.std.proofs.Common.{◌≡◌, None, replicate}
 use Rattle.core_steps.proofs.machine.no_hands.Given as goal
 
 abbrev pub invariant-loop-cpu : goal.invariant-loop-cpu

@@ -1,4 +1,4 @@
-use Rattle.std.proofs.Common.{◌≡◌, ℕ, ◌*◌, None, replicate}
+use Rattle.std.proofs.Common.{◌≡◌, replicate}
 use Rattle.core_steps.specs.Machine.{nothing_waits}
 use Rattle.core_steps.proofs.machine.no_ops.Given as goal
 

@@ -1,4 +1,4 @@
-use Rattle.std.proofs.Common.{◌≡◌, ℕ, suc, ◌+◌, ◌-◌, ◌<◌, List, ◌∷◌, Bool, false, refl, sym, ap, ◌∙◌, arith, rules, find}
+use Rattle.std.proofs.Common.{◌≡◌, ℕ, suc, ◌+◌, ◌-◌, ◌<◌, List, ◌∷◌, Bool, false, refl, sym, ap, ◌∙◌, arith, find}
 use Rattle.std.specs.List.{range_with_len}
 use Rattle.core_steps.specs.Machine.{is_used}
 use Rattle.core_steps.proofs.refusal.used_key.Goals as goal

@@ -1,8 +1,6 @@
-use Rattle.std.proofs.Common.{◌≡◌, ℕ, List, Option, length, take, drop, ◌++◌, arith, rules, subst}
-use Rattle.tag_model.specs.declared.state.Hand.{Hand}
-use Rattle.tag_model.specs.declared.state.Held.{Held}
-use Rattle.core_steps.specs.Machine.{machine_of, refusal_of}
-use Rattle.core_steps.specs.CoreState.{CoreState, IsCore, state_of}
+use Rattle.std.proofs.Common.{arith}
+use Rattle.core_steps.specs.Machine.{machine_of}
+use Rattle.core_steps.specs.CoreState.{CoreState, IsCore}
 use Rattle.core_steps.proofs.Kept.{can_go, core_after, row_after, written}
 use Rattle.core_steps.proofs.Left.{left_lists}
 use Rattle.core_steps.proofs.Meaning.{moved_lists}

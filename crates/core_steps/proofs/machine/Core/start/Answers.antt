@@ -1,4 +1,4 @@
-use Rattle.std.proofs.Common.{◌≡◌, refl}
+use Rattle.std.proofs.Common.{refl}
 use Rattle.core_steps.specs.CoreState.{no_places}
 use Rattle.core_steps.proofs.Fresh.{core_fresh}
 use Rattle.core_steps.proofs.machine.Core.start.Goals as goal
