@@ -19,5 +19,7 @@ pub mod Records
 pub mod ReleaseRow
 pub mod ScanRow
 pub mod Steps
+pub mod Still
+pub mod Stops
 pub mod Swept
 pub mod Words

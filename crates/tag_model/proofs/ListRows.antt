@@ -59,7 +59,7 @@ the_one {l} o = record { l = l; only = o.only; stands = o.stands }
 
 -- ---- the sweep law by the list part
 
-same_kind_refl : (kind : Kind) → same_kind kind kind ≡ true
+pub same_kind_refl : (kind : Kind) → same_kind kind kind ≡ true
 same_kind_refl Bytes = refl
 same_kind_refl Calls = refl
 
@@ -81,7 +81,7 @@ sweep_ok k l ps o laws law = record {
       let one : one_if (has_cleared l.sweep kind t l.records) ≡ 1 = rw e refl in
       law.cleared kind t (omega (arith, o.only (cleared kind t) (of_cleared kind t))) }
 
-same_kind_means : (a b : Kind) → 0 < one_if (same_kind a b) → a ≡ b
+pub same_kind_means : (a b : Kind) → 0 < one_if (same_kind a b) → a ≡ b
 same_kind_means Bytes Bytes h = refl
 same_kind_means Bytes Calls h = absurd (omega arith)
 same_kind_means Calls Bytes h = absurd (omega arith)

@@ -62,7 +62,7 @@ rises_push low next (x ∷ records) r below is e none =
 
 -- ---- one more record
 
-count_push : {X : Type 0} (p : X → Bool) (xs : List X) (x : X) → count_by p (xs ++ x ∷ []) ≡ count_by p xs + cond (p x) 1 0
+pub count_push : {X : Type 0} (p : X → Bool) (xs : List X) (x : X) → count_by p (xs ++ x ∷ []) ≡ count_by p xs + cond (p x) 1 0
 count_push {X} p xs x = omega (arith, sum_by-append (λ (y : X). cond {A = ℕ} (p y) 1 0) xs (x ∷ []))
 
 any_push : {X : Type 0} (p : X → Bool) (xs : List X) (x : X) → list_any p (xs ++ x ∷ []) ≡ true → (list_any p xs ≡ true) ⊎ (p x ≡ true)

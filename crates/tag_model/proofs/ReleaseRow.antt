@@ -66,7 +66,7 @@ counted_of_number kind tag ps = sum_by-le-sum_by (counted_of kind tag) (counted 
 abbrev pub others : ℕ → List Record → List Record
 others id records = filter (λ (r : Record). not (r.id == id)) records
 
-sum_others : (f : Record → ℕ) (id : ℕ) (records : List Record) → sum_by f (others id records) ≤ sum_by f records
+pub sum_others : (f : Record → ℕ) (id : ℕ) (records : List Record) → sum_by f (others id records) ≤ sum_by f records
 sum_others f id [] = omega arith
 sum_others f id (r ∷ records) = go (not (r.id == id)) (sum_others f id records)
   where

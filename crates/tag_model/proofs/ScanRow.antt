@@ -202,6 +202,14 @@ book_scan c l s stops reads = record {
 read_word : (a i x : ℕ) → a ≡ i → (cond {A = ℕ} (nat_le i a) x 0 ≡ x) × (cond {A = ℕ} (nat_le (i + 1) a) x 0 ≡ 0)
 read_word a i x is = (rw (le-leb i a (omega arith)) refl, rw (lt-leb (i + 1) a (omega arith)) refl)
 
+pub word_and_next : (cpu : CpuPart) (l : ListPart) (w ps qs : List Part) (i : ℕ) (kind : Kind) (t : ℕ) → Becomes (Cpu cpu ∷ Modules l ∷ []) w ps qs → cpu.number ≡ i → sum_by (is_cpu i) ps ≡ 1
+    → sum_by (word_from i kind t) ps ≡ slice_index cpu.words (word_place kind t) + sum_by (word_from (i + 1) kind t) ps
+word_and_next cpu l w ps qs i kind t b is once =
+    let here : one_if (cpu.number == i) ≡ 1 = rw (eq-eqb cpu.number i is) refl in
+    let others : sum_by (is_cpu i) b.rest ≡ 0 = omega (arith, b.before (is_cpu i)) in
+    let read = read_word cpu.number i (slice_index cpu.words (word_place kind t)) is in
+    omega (arith, read.0, read.1, next_from i kind t b.rest others, b.before (word_from i kind t), b.before (word_from (i + 1) kind t))
+
 wrap_small : (n : ℕ) → wrap n < 2 ^ 64
 wrap_small n = omega arith
 
@@ -238,16 +246,8 @@ safe-scans k left r cpu old new ps qs checked row steps safe = record {
     ok = subst (λ s. SweepOk k s old.records ps) row.reading (sweep_ok k old ps one laws safe.sweep)
     enough : sum_by (counted r.pass r.tag) ps ≤ wrap (sum + sum_by (word_from (r.cpu + 1) r.pass r.tag) ps)
     enough =
-        let within = (reading_fits k left r old.records ok.fits).cpu in
-        let here : one_if (cpu.number == r.cpu) ≡ 1 = rw (eq-eqb cpu.number r.cpu row.next) refl in
-        let once = safe.each.cpus r.cpu within in
-        let others : sum_by (is_cpu r.cpu) b.rest ≡ 0 = omega (arith, b.before (is_cpu r.cpu)) in
-        let read = read_word cpu.number r.cpu x row.next in
-        let rest = next_from r.cpu r.pass r.tag b.rest others in
-        let from = b.before (word_from r.cpu r.pass r.tag) in
-        let next = b.before (word_from (r.cpu + 1) r.pass r.tag) in
-        let was = ok.reading in
-        read_on (sum_by (counted r.pass r.tag) ps) r.sum x (sum_by (word_from r.cpu r.pass r.tag) ps) (sum_by (word_from (r.cpu + 1) r.pass r.tag) ps) (omega (arith, read.0, read.1)) was
+        read_on (sum_by (counted r.pass r.tag) ps) r.sum x (sum_by (word_from r.cpu r.pass r.tag) ps) (sum_by (word_from (r.cpu + 1) r.pass r.tag) ps)
+          (word_and_next cpu old w ps qs r.cpu r.pass r.tag b row.next (safe.each.cpus r.cpu (reading_fits k left r old.records ok.fits).cpu)) ok.reading
       where
         read_on : (c s y from next : ℕ) → from ≡ y + next → c ≤ wrap (s + from) → c ≤ wrap (wrap (s + y) + next)
         read_on c s y from next e h = omega arith
