@@ -20,6 +20,7 @@ pub mod ReleaseRow
 pub mod ScanRow
 pub mod Steps
 pub mod Still
+pub mod StopLaw
 pub mod Stops
 pub mod Swept
 pub mod Words

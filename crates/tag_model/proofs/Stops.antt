@@ -90,7 +90,7 @@ calls_show pass (sweep.Done left) is start e kind = tt
 calls_show pass (sweep.Reading left r) is start e kind = absurd (false≢true (sym e ∙ and_from _ _ (ap (λ x. not (is_calls x)) is) (ap is_calls start.0)))
 
 -- where calls are read after a read of bytes, the pass of calls begins
-calls_begin : (k : Shape) (left : List ℕ) (r : Reader) (sum : ℕ) (s : Sweep) → AfterRead k left r sum s → is_calls r.pass ≡ false → reads_calls s ≡ true → AtStart Calls s
+pub calls_begin : (k : Shape) (left : List ℕ) (r : Reader) (sum : ℕ) (s : Sweep) → AfterRead k left r sum s → is_calls r.pass ≡ false → reads_calls s ≡ true → AtStart Calls s
 calls_begin k left r sum s (AfterRead.next_cpu within is) bytes calls = absurd (false≢true (sym bytes ∙ subst (λ x. reads_calls x ≡ true) is calls))
 calls_begin k left r sum s (AfterRead.next_tag last start) bytes calls = absurd (same s start calls)
   where
@@ -103,7 +103,7 @@ calls_begin k left r sum s (AfterRead.to_calls last is start) bytes calls = star
 -- ---- each step that begins no pass
 
 -- the parts that become others keep the dead ranges, the sweep, the counts and the words
-quiet_stays : (kind : Kind) (t : ℕ) (v w ps qs : List Part) → Becomes v w ps qs → sum_by (records_with (dead_at t)) w ≤ sum_by (records_with (dead_at t)) v → ((f : Reader → ℕ) → sum_by (of_reader f) v ≡ sum_by (of_reader f) w)
+pub quiet_stays : (kind : Kind) (t : ℕ) (v w ps qs : List Part) → Becomes v w ps qs → sum_by (records_with (dead_at t)) w ≤ sum_by (records_with (dead_at t)) v → ((f : Reader → ℕ) → sum_by (of_reader f) v ≡ sum_by (of_reader f) w)
     → sum_by (counted kind t) v ≡ sum_by (counted kind t) w → ((i : ℕ) → sum_by (word_from i kind t) v ≡ sum_by (word_from i kind t) w) → StaysStill kind t ps qs
 quiet_stays kind t v w ps qs b dead field counts words = record {
   dead = omega (arith, b.before (records_with (dead_at t)), b.after (records_with (dead_at t)));
@@ -115,19 +115,19 @@ cond_none : (b : Bool) → (if b then Some Calls else None) ≡ None → b ≡ f
 cond_none true e = cc
 cond_none false e = refl
 
-cond_some : (b : Bool) (kind : Kind) → (if b then Some Calls else None) ≡ Some kind → (b ≡ true) × (kind ≡ Calls)
+pub cond_some : (b : Bool) (kind : Kind) → (if b then Some Calls else None) ≡ Some kind → (b ≡ true) × (kind ≡ Calls)
 cond_some true kind e = (refl, cc)
 cond_some false kind e = cc
 
 -- the sum that a read leaves, and the list part
-abbrev sum_read : CpuPart → Reader → ℕ
+abbrev pub sum_read : CpuPart → Reader → ℕ
 sum_read cpu r = wrap (r.sum + slice_index cpu.words (word_place r.pass r.tag))
 
-abbrev list_read : Shape → List ℕ → Reader → CpuPart → ListPart → ListPart
+abbrev pub list_read : Shape → List ℕ → Reader → CpuPart → ListPart → ListPart
 list_read k left r cpu old = record old { sweep = sweep_after k old.records left r (sum_read cpu r); stops = old.stops ++ stop_after k r (sum_read cpu r); reads = old.reads + 1 }
 
 -- what a read finds of a tag of the pass that is still
-scan_finds : (k : Shape) (kind : Kind) (t : ℕ) (left : List ℕ) (r : Reader) (cpu : CpuPart) (old : ListPart) (w ps qs : List Part) → old.sweep ≡ sweep.Reading left r → cpu.number ≡ r.cpu → Becomes (Cpu cpu ∷ Modules old ∷ []) w ps qs → Safe k ps → Still kind t ps
+pub scan_finds : (k : Shape) (kind : Kind) (t : ℕ) (left : List ℕ) (r : Reader) (cpu : CpuPart) (old : ListPart) (w ps qs : List Part) → old.sweep ≡ sweep.Reading left r → cpu.number ≡ r.cpu → Becomes (Cpu cpu ∷ Modules old ∷ []) w ps qs → Safe k ps → Still kind t ps
     → (r.pass ≡ kind) × (r.tag ≡ t → wrap (sum_read cpu r + sum_by (word_from (r.cpu + 1) kind t) ps) ≡ 0)
 scan_finds k kind t left r cpu old w ps qs reading number b safe s =
     let one = one_before (Cpu cpu ∷ Modules old ∷ []) w ps qs old (list_with_cpu cpu old) b safe.each.list in
