@@ -1,33 +1,29 @@
 -- The law of stops, over histories.
-use Rattle.std.proofs.Common.{◌≡◌, ℕ, ◌+◌, ◌%◌, ◌^◌, ◌<◌, ◌≤◌, ◌==◌, ◌&&◌, ◌⊎◌, nat_lt, ◌-◌, List, [], ◌∷◌, ◌++◌, sum_by, count_by, slice_index, eq-eqb, refl, sym, ap, ◌∙◌, subst, inl, inr, arith, Bool, true, false, not, cond, eqb-true, ltb-false, Option, Some, None, if◌then◌else◌}
-use Rattle.std.proofs.lemmas.Bool.{and_parts, false≢true, not-true, not-false, cases_Bool, cases_lt}
-use Rattle.std.proofs.lemmas.List.Sums.{sum_by-append, sum_by-cons}
+use Rattle.std.proofs.Common.{◌≡◌, ℕ, ◌+◌, ◌<◌, ◌≤◌, ◌==◌, ◌&&◌, ◌⊎◌, nat_lt, List, [], ◌∷◌, ◌++◌, sum_by, count_by, slice_index, eq-eqb, refl, sym, ◌∙◌, subst, inl, inr, arith, Bool, true, false, not, cond, eqb-true, ltb-false, Some, None, if◌then◌else◌}
+use Rattle.std.proofs.lemmas.Bool.{and_parts, false≢true, not-true, cases_lt}
+use Rattle.std.proofs.lemmas.List.Sums.{sum_by-append}
 use Rattle.tag_model.specs.declared.shape.Shape.{Shape}
 use Rattle.tag_model.specs.declared.state.CpuPart.{CpuPart}
 use Rattle.tag_model.specs.declared.state.Kind.{Kind}
-use Rattle.tag_model.specs.declared.state.Kind.TheVariants.{Bytes, Calls}
+use Rattle.tag_model.specs.declared.state.Kind.TheVariants.{Bytes}
 use Rattle.tag_model.specs.declared.state.ListPart.{ListPart}
 use Rattle.tag_model.specs.declared.state.Part.{Part}
 use Rattle.tag_model.specs.declared.state.Part.TheVariants.{Cpu, Place, Modules, NextId}
 use Rattle.tag_model.specs.declared.state.Reader.{Reader}
 use Rattle.tag_model.specs.declared.state.Record.{Record}
 use Rattle.tag_model.specs.declared.state.Stop.{Stop}
-use Rattle.tag_model.specs.declared.state.Sweep.{Sweep}
 use Rattle.tag_model.specs.declared.state.Sweep.TheVariants as sweep
 use Rattle.tag_model.specs.Histories.{Leads, IsHistory, last_state, reads_calls, pass_begun, begun_by, NoneBegins, PassHistory, stops_at}
 use Rattle.tag_model.specs.Laws.{Safe, is_calls, same_kind}
 use Rattle.tag_model.specs.Shape.{IsChecked}
-use Rattle.tag_model.specs.StepRules.{Row, BaseMove, Becomes, Steps, stop_after, sweep_after, begins_pass, dead_ids, without_id, run_on}
+use Rattle.tag_model.specs.StepRules.{Row, BaseMove, Becomes, stop_after, begins_pass, dead_ids}
 use Rattle.tag_model.specs.Wrap.{wrap}
-use Rattle.tag_model.specs.WordState.{one_if, word_place, word_from, counted, records_with}
+use Rattle.tag_model.specs.WordState.{word_place, word_from, counted}
 use Rattle.tag_model.proofs.Bounds.{none_from}
-use Rattle.tag_model.proofs.ListRows.{OneList, list_alone, list_with_cpu, one_after}
-use Rattle.tag_model.proofs.Lists.{dead_at}
-use Rattle.tag_model.proofs.Parts.{becomes_same}
-use Rattle.tag_model.proofs.ReleaseRow.{others}
-use Rattle.tag_model.proofs.Steps.{row_is_safe, step_is_safe, base_move_is_safe}
+use Rattle.tag_model.proofs.ListRows.{list_alone, list_with_cpu, one_after}
+use Rattle.tag_model.proofs.Steps.{step_is_safe, base_move_is_safe}
 use Rattle.tag_model.proofs.Still.{Still, AtStart, still_stays, still_start}
-use Rattle.tag_model.proofs.Stops.{begins_at_start, AfterRead, after_read, calls_begin, cond_some, quiet_stays, sum_read, list_read, scan_finds, row_still}
+use Rattle.tag_model.proofs.Stops.{begins_at_start, after_read, calls_begin, cond_some, quiet_stays, sum_read, list_read, scan_finds, row_still}
 
 -- ---- safe along a history
 
@@ -115,6 +111,7 @@ scan_no_stop k kind t left r cpu old w ps qs reading number b safe s = go (not (
       where
         finds_zero : (n next : ℕ) → next ≡ 0 → wrap (wrap n + next) ≡ 0 → wrap n ≡ 0
         finds_zero n next e h = omega arith
+
     go : (c : Bool) → (not (nat_lt (r.cpu + 1) k.cpus) && not (sum_read cpu r == 0)) ≡ c
         → count_by (λ (s : Stop). same_kind s.kind kind && (s.tag == t)) (if c then record { id = r.id; tag = r.tag; kind = r.pass; sum = sum_read cpu r } ∷ [] else []) ≡ 0
     go false e = refl
@@ -140,10 +137,10 @@ row_no_stop k kind t v w ps qs (Row.subtracts_call {hand} {old} {new} r) b safe 
 row_no_stop k kind t v w ps qs (Row.writes_place {n} {old} {new} {was} {next} r) b safe s more = no_more kind t (Cpu old ∷ Place n was ∷ []) (Cpu new ∷ Place n next ∷ []) ps qs b (omega arith) more
 row_no_stop k kind t v w ps qs (Row.scans {left} {r} {cpu} {old} {new} row) b safe s more =
     no_more kind t (Cpu cpu ∷ Modules old ∷ []) (Cpu cpu ∷ Modules (list_read k left r cpu old) ∷ []) ps qs (subst (λ y. Becomes (Cpu cpu ∷ Modules old ∷ []) (Cpu cpu ∷ Modules y ∷ []) ps qs) row.after b)
-      (omega (arith, sum_by-append (λ (x : Stop). cond {A = ℕ} (same_kind x.kind kind && (x.tag == t)) 1 0) old.stops (stop_after k r (sum_read cpu r)), scan_no_stop k kind t left r cpu old _ ps qs row.reading row.next b safe s)) more
+    (omega (arith, sum_by-append (λ (x : Stop). cond {A = ℕ} (same_kind x.kind kind && (x.tag == t)) 1 0) old.stops (stop_after k r (sum_read cpu r)), scan_no_stop k kind t left r cpu old _ ps qs row.reading row.next b safe s)) more
 row_no_stop k kind t v w ps qs (Row.loads {section} {start} {length} {id} {old} {new} r) b safe s more =
     no_more kind t (Modules old ∷ NextId id ∷ []) (Modules (record old { records = old.records ++ record { id = id; section = section; start = start; length = length; dead = false; users = 0 } ∷ [] }) ∷ NextId (id + 1) ∷ []) ps qs
-      (subst (λ y. Becomes (Modules old ∷ NextId id ∷ []) (Modules y ∷ NextId (id + 1) ∷ []) ps qs) r.after b) (omega arith) more
+    (subst (λ y. Becomes (Modules old ∷ NextId id ∷ []) (Modules y ∷ NextId (id + 1) ∷ []) ps qs) r.after b) (omega arith) more
 row_no_stop k kind t v w ps qs (Row.enters {old} {new} r) b safe s more = no_more_list kind t old new _ ps qs b r.after (omega arith) more
 row_no_stop k kind t v w ps qs (Row.leaves {old} {new} r) b safe s more = no_more_list kind t old new _ ps qs b r.after (omega arith) more
 row_no_stop k kind t v w ps qs (Row.marks_dead {old} {new} r) b safe s more = no_more_list kind t old new _ ps qs b r.after (omega arith) more
@@ -172,10 +169,13 @@ stop_was_counted k kind t first begun last new ok safe h m more = go (cases_lt 0
   where
     before : Safe k (last_state first h.before)
     before = history_safe k first h.before ok h.led safe
+
     safe_begun : Safe k begun
     safe_begun = leads_safe k (last_state first h.before) begun ok h.start before
+
     safe_last : Safe k last
     safe_last = subst (λ x. Safe k x) h.ends (history_safe k begun h.later ok h.goes_on safe_begun)
+
     go : (0 < sum_by (counted kind t) begun) ⊎ (sum_by (counted kind t) begun ≤ 0) → 0 < sum_by (counted kind t) begun
     go (inl some) = some
     go (inr few) =

@@ -1,11 +1,8 @@
 -- A sweep gets a stop at a tag only where something was counted under it as its pass began.
-use Rattle.std.proofs.Common.{◌≡◌, ℕ, ◌+◌, ◌-◌, ◌%◌, ◌^◌, ◌<◌, ◌≤◌, ◌==◌, ◌&&◌, ◌||◌, ◌⊎◌, nat_lt, nat_le, List, [], ◌∷◌, ◌++◌, sum_by, count_by, slice_index, find, refl, sym, ap, ◌∙◌, subst, inl, inr, arith, Bool, true, false, not, cond, eqb-true, ltb-true, ltb-false, Option, Some, None, if◌then◌else◌}
-use Rattle.std.proofs.lemmas.Bool.{and_parts, and_from, false≢true, not-true, cases_Bool, cases_lt}
-use Rattle.std.proofs.lemmas.List.Sums.{sum_by-append, sum_by-cons}
+use Rattle.std.proofs.Common.{◌≡◌, ℕ, ◌+◌, ◌-◌, ◌<◌, ◌≤◌, ◌==◌, ◌&&◌, ◌⊎◌, nat_lt, List, [], ◌∷◌, ◌++◌, sum_by, count_by, slice_index, find, refl, sym, ap, ◌∙◌, subst, inl, inr, arith, Bool, true, false, not, cond, ltb-true, ltb-false, Option, Some, None, if◌then◌else◌}
+use Rattle.std.proofs.lemmas.Bool.{and_from, false≢true}
 use Rattle.tag_model.specs.declared.shape.Shape.{Shape}
 use Rattle.tag_model.specs.declared.state.CpuPart.{CpuPart}
-use Rattle.tag_model.specs.declared.state.Hand.{Hand}
-use Rattle.tag_model.specs.declared.state.Held.{Held}
 use Rattle.tag_model.specs.declared.state.Kind.{Kind}
 use Rattle.tag_model.specs.declared.state.Kind.TheVariants.{Bytes, Calls}
 use Rattle.tag_model.specs.declared.state.ListPart.{ListPart}
@@ -13,30 +10,25 @@ use Rattle.tag_model.specs.declared.state.Part.{Part}
 use Rattle.tag_model.specs.declared.state.Part.TheVariants.{Cpu, Place, Modules, NextId}
 use Rattle.tag_model.specs.declared.state.Reader.{Reader}
 use Rattle.tag_model.specs.declared.state.Record.{Record}
-use Rattle.tag_model.specs.declared.state.Stop.{Stop}
 use Rattle.tag_model.specs.declared.state.Sweep.{Sweep}
 use Rattle.tag_model.specs.declared.state.Sweep.TheVariants as sweep
-use Rattle.tag_model.specs.Histories.{Leads, IsHistory, last_state, reads_calls, pass_begun, begun_by, NoneBegins, PassHistory, stops_at}
-use Rattle.tag_model.specs.Laws.{Safe, is_calls, same_kind, of_reader, sweep_fits}
+use Rattle.tag_model.specs.Histories.{reads_calls, pass_begun}
+use Rattle.tag_model.specs.Laws.{Safe, is_calls, of_reader, sweep_fits}
 use Rattle.tag_model.specs.Shape.{IsChecked}
-use Rattle.tag_model.specs.StepRules.{Row, BaseMove, Becomes, Steps, Scans, Loads, Enters, Leaves, MarksDead, Sweeps, Releases, WritesPlace, GivesRun, TakesRun, NotesRecord, sweep_after, stop_after, begins_pass, after_pass, goes_on, passes_record, without_id, end_of, dead_ids, run_on}
+use Rattle.tag_model.specs.StepRules.{Row, Becomes, sweep_after, stop_after, begins_pass, after_pass, goes_on, passes_record, without_id, end_of, run_on}
 use Rattle.tag_model.specs.Wrap.{wrap}
-use Rattle.tag_model.specs.WordState.{one_if, word_place, word_from, counted, records_with, in_range}
-use Rattle.tag_model.proofs.Alike.{alike_after, alike_place}
-use Rattle.tag_model.proofs.Bounds.{none_from}
-use Rattle.tag_model.proofs.CpuRows.{Seen, seen, rise-begins_allocation, rise-adds_bytes, rise-adds_call, fall-subtracts_bytes, fall-subtracts_call}
-use Rattle.tag_model.proofs.ListRows.{OneList, list_alone, list_with_cpu, one_before, one_after, the_one, sweep_ok, same_kind_means}
+use Rattle.tag_model.specs.WordState.{word_place, word_from, counted, records_with}
+use Rattle.tag_model.proofs.CpuRows.{seen, rise-begins_allocation, rise-adds_bytes, rise-adds_call, fall-subtracts_bytes, fall-subtracts_call}
+use Rattle.tag_model.proofs.ListRows.{OneList, list_alone, list_with_cpu, one_before, one_after, the_one}
 use Rattle.tag_model.proofs.Lists.{dead_at}
 use Rattle.tag_model.proofs.LoadRow.{count_push}
 use Rattle.tag_model.proofs.Parts.{becomes_same}
-use Rattle.tag_model.proofs.Passes.{SweepOk}
 use Rattle.tag_model.proofs.PlaceRow.{counts_stay}
 use Rattle.tag_model.proofs.Records.{count_swap}
 use Rattle.tag_model.proofs.ReleaseRow.{others, sum_others}
-use Rattle.tag_model.proofs.ScanRow.{ReadingFits, reading_fits, word_and_next}
-use Rattle.tag_model.proofs.Steps.{step_is_safe, base_move_is_safe}
+use Rattle.tag_model.proofs.ScanRow.{reading_fits, word_and_next}
 use Rattle.tag_model.proofs.Still.{Still, StaysStill, still_stays, rise_stays, fall_stays, ReadsNothing, AtStart, still_by_sweep, sweep_of_still, still_start}
-use Rattle.tag_model.proofs.Swept.{ListLaws, list_laws}
+use Rattle.tag_model.proofs.Swept.{list_laws}
 
 -- ---- where a pass stands after it begins, and after a read
 
@@ -52,6 +44,7 @@ passes_at_start pass left records id = go (find (nat_lt id) left)
     after pass [] = inl tt
     after Bytes (first ∷ rest) = inr (refl, begins_at_start Calls (first ∷ rest) records)
     after Calls (first ∷ rest) = inl tt
+
     go : (next : Option ℕ) → AtStart pass (goes_on next pass left records) ⊎ ((pass ≡ Bytes) × AtStart Calls (goes_on next pass left records))
     go None = after pass left
     go (Some next) = inl (refl, refl, refl)
@@ -68,18 +61,21 @@ after_read k records left r sum = at_cpu (nat_lt (r.cpu + 1) k.cpus) refl
     through : (s : Sweep) → k.cpus ≤ r.cpu + 1 → AtStart r.pass s ⊎ ((r.pass ≡ Bytes) × AtStart Calls s) → AfterRead k left r sum s
     through s last (inl start) = AfterRead.next_tag last start
     through s last (inr calls) = AfterRead.to_calls last calls.0 calls.1
+
     at_end : (b : Bool) → k.cpus ≤ r.cpu + 1 → AfterRead k left r sum (if b then sweep.Reading left (record r { tag = r.tag + 1; cpu = 0; sum = 0 }) else passes_record r.pass left records r.id)
     at_end true last = AfterRead.next_tag last (refl, refl, refl)
     at_end false last = through (passes_record r.pass left records r.id) last (passes_at_start r.pass left records r.id)
+
     at_sum : (b : Bool) → k.cpus ≤ r.cpu + 1
         → AfterRead k left r sum (if b then passes_record r.pass (without_id r.id left) records r.id
-            else (if nat_lt (r.tag + 1) (end_of r.id records) then sweep.Reading left (record r { tag = r.tag + 1; cpu = 0; sum = 0 }) else passes_record r.pass left records r.id))
+        else (if nat_lt (r.tag + 1) (end_of r.id records) then sweep.Reading left (record r { tag = r.tag + 1; cpu = 0; sum = 0 }) else passes_record r.pass left records r.id))
     at_sum true last = through (passes_record r.pass (without_id r.id left) records r.id) last (passes_at_start r.pass (without_id r.id left) records r.id)
     at_sum false last = at_end (nat_lt (r.tag + 1) (end_of r.id records)) last
+
     at_cpu : (b : Bool) → nat_lt (r.cpu + 1) k.cpus ≡ b
         → AfterRead k left r sum (if b then sweep.Reading left (record r { cpu = r.cpu + 1; sum = sum })
-            else (if not (sum == 0) then passes_record r.pass (without_id r.id left) records r.id
-            else (if nat_lt (r.tag + 1) (end_of r.id records) then sweep.Reading left (record r { tag = r.tag + 1; cpu = 0; sum = 0 }) else passes_record r.pass left records r.id)))
+        else (if not (sum == 0) then passes_record r.pass (without_id r.id left) records r.id
+        else (if nat_lt (r.tag + 1) (end_of r.id records) then sweep.Reading left (record r { tag = r.tag + 1; cpu = 0; sum = 0 }) else passes_record r.pass left records r.id)))
     at_cpu true is = AfterRead.next_cpu (ltb-true (r.cpu + 1) k.cpus is) refl
     at_cpu false is = at_sum (not (sum == 0)) (ltb-false (r.cpu + 1) k.cpus is)
 
@@ -109,7 +105,8 @@ quiet_stays kind t v w ps qs b dead field counts words = record {
   dead = omega (arith, b.before (records_with (dead_at t)), b.after (records_with (dead_at t)));
   field = λ f. becomes_same (of_reader f) v w ps qs b (field f);
   counts = λ here none. omega (arith, becomes_same (counted kind t) v w ps qs b counts);
-  words = λ here none s i. ap (λ x. wrap (s + x)) (becomes_same (word_from i kind t) v w ps qs b (words i)) }
+  words = λ here none s i. ap (λ x. wrap (s + x)) (becomes_same (word_from i kind t) v w ps qs b (words i));
+}
 
 cond_none : (b : Bool) → (if b then Some Calls else None) ≡ None → b ≡ false
 cond_none true e = cc
@@ -133,12 +130,14 @@ scan_finds k kind t left r cpu old w ps qs reading number b safe s =
     let one = one_before (Cpu cpu ∷ Modules old ∷ []) w ps qs old (list_with_cpu cpu old) b safe.each.list in
     let laws = list_laws k ps (the_one one) safe.fits safe.cover safe.sweep.fits in
     let fit = reading_fits k left r old.records (subst (λ x. sweep_fits k x old.records ≡ true) reading laws.sweep) in
-    let found = sweep_of_still kind t old left r ps one reading s in
-    (found.0, λ here.
-       let next = word_and_next cpu old w ps qs r.cpu kind t b number (safe.each.cpus r.cpu fit.cpu) in
-       let word : slice_index cpu.words (word_place kind t) ≡ slice_index cpu.words (word_place r.pass r.tag) =
-             subst (λ x. slice_index cpu.words (word_place x t) ≡ slice_index cpu.words (word_place r.pass r.tag)) found.0 (subst (λ x. slice_index cpu.words (word_place r.pass x) ≡ slice_index cpu.words (word_place r.pass r.tag)) here refl) in
-       read_on r.sum (slice_index cpu.words (word_place r.pass r.tag)) (sum_by (word_from r.cpu kind t) ps) (sum_by (word_from (r.cpu + 1) kind t) ps) (omega (arith, next, word)) (found.1 here))
+    let found = sweep_of_still kind t old left r ps one reading s in (
+      found.0,
+      λ here.
+          let next = word_and_next cpu old w ps qs r.cpu kind t b number (safe.each.cpus r.cpu fit.cpu) in
+          let word : slice_index cpu.words (word_place kind t) ≡ slice_index cpu.words (word_place r.pass r.tag) =
+          subst (λ x. slice_index cpu.words (word_place x t) ≡ slice_index cpu.words (word_place r.pass r.tag)) found.0 (subst (λ x. slice_index cpu.words (word_place r.pass x) ≡ slice_index cpu.words (word_place r.pass r.tag)) here refl) in
+          read_on r.sum (slice_index cpu.words (word_place r.pass r.tag)) (sum_by (word_from r.cpu kind t) ps) (sum_by (word_from (r.cpu + 1) kind t) ps) (omega (arith, next, word)) (found.1 here),
+    )
   where
     read_on : (s x from next : ℕ) → from ≡ x + next → wrap (s + from) ≡ 0 → wrap (wrap (s + x) + next) ≡ 0
     read_on s x from next e h = omega arith
@@ -149,16 +148,22 @@ scan_still k kind t left r cpu old ps qs reading number b safe after none s = go
   where
     d : ListPart
     d = list_read k left r cpu old
+
     v : List Part
     v = Cpu cpu ∷ Modules old ∷ []
+
     w : List Part
     w = Cpu cpu ∷ Modules d ∷ []
+
     one : OneList d qs
     one = one_after v w ps qs old d (list_with_cpu cpu old) (list_with_cpu cpu d) b safe.each.list
+
     nothing : 0 < sum_by (records_with (dead_at t)) qs → sum_by (counted kind t) qs ≡ 0
     nothing dead = becomes_same (counted kind t) v w ps qs b refl ∙ s.nothing (omega (arith, becomes_same (records_with (dead_at t)) v w ps qs b refl))
+
     found : (r.pass ≡ kind) × (r.tag ≡ t → wrap (sum_read cpu r + sum_by (word_from (r.cpu + 1) kind t) ps) ≡ 0)
     found = scan_finds k kind t left r cpu old w ps qs reading number b safe s
+
     go : AfterRead k left r (sum_read cpu r) d.sweep → Still kind t qs
     go (AfterRead.next_cpu within is) = still_by_sweep kind t d qs one nothing
         (subst (λ x. ReadsNothing kind t x qs) (sym is) (found.0, λ here. ap (λ x. wrap (sum_read cpu r + x)) (becomes_same (word_from (r.cpu + 1) kind t) v w ps qs b refl) ∙ found.1 here))
@@ -180,31 +185,31 @@ row_still k kind t v w ps qs ok (Row.subtracts_call {hand} {old} {new} r) b safe
 row_still k kind t v w ps qs ok (Row.writes_place {n} {old} {new} {was} {next} r) b safe after none s =
     let moved = subst (λ x. Becomes (Cpu old ∷ Place n was ∷ []) (Cpu x ∷ Place n next ∷ []) ps qs) r.after b in
     still_stays k kind t ps qs safe
-      (quiet_stays kind t (Cpu old ∷ Place n was ∷ []) (Cpu (record old { hand = new.hand }) ∷ Place n next ∷ []) ps qs moved (omega arith) (λ f. refl) (omega (arith, counts_stay old.hand new.hand was next r.stays kind t)) (λ i. refl)) s
+    (quiet_stays kind t (Cpu old ∷ Place n was ∷ []) (Cpu (record old { hand = new.hand }) ∷ Place n next ∷ []) ps qs moved (omega arith) (λ f. refl) (omega (arith, counts_stay old.hand new.hand was next r.stays kind t)) (λ i. refl)) s
 row_still k kind t v w ps qs ok (Row.scans {left} {r} {cpu} {old} {new} row) b safe after none s =
     scan_still k kind t left r cpu old ps qs row.reading row.next (subst (λ y. Becomes (Cpu cpu ∷ Modules old ∷ []) (Cpu cpu ∷ Modules y ∷ []) ps qs) row.after b) safe after
-      (subst (λ y. (not (is_calls r.pass) && reads_calls y.sweep) ≡ false) row.after (cond_none (not (is_calls r.pass) && reads_calls new.sweep) none)) s
+    (subst (λ y. (not (is_calls r.pass) && reads_calls y.sweep) ≡ false) row.after (cond_none (not (is_calls r.pass) && reads_calls new.sweep) none)) s
 row_still k kind t v w ps qs ok (Row.loads {section} {start} {length} {id} {old} {new} r) b safe after none s =
     let fresh : Record = record { id = id; section = section; start = start; length = length; dead = false; users = 0 } in
     let moved = subst (λ y. Becomes (Modules old ∷ NextId id ∷ []) (Modules y ∷ NextId (id + 1) ∷ []) ps qs) r.after b in
     still_stays k kind t ps qs safe
-      (quiet_stays kind t (Modules old ∷ NextId id ∷ []) (Modules (record old { records = old.records ++ fresh ∷ [] }) ∷ NextId (id + 1) ∷ []) ps qs moved (omega (arith, count_push (dead_at t) old.records fresh)) (λ f. refl) refl (λ i. refl)) s
+    (quiet_stays kind t (Modules old ∷ NextId id ∷ []) (Modules (record old { records = old.records ++ fresh ∷ [] }) ∷ NextId (id + 1) ∷ []) ps qs moved (omega (arith, count_push (dead_at t) old.records fresh)) (λ f. refl) refl (λ i. refl)) s
 row_still k kind t v w ps qs ok (Row.enters {old} {new} r) b safe after none s =
     let changed : Record = record r.entry { users = r.entry.users + 1 } in
     let moved = subst (λ y. Becomes (Modules old ∷ []) (Modules y ∷ []) ps qs) r.after b in
     still_stays k kind t ps qs safe
-      (quiet_stays kind t (Modules old ∷ []) (Modules (record old { records = r.front ++ changed ∷ r.back; away = run_on r.entry ∷ old.away }) ∷ []) ps qs moved
-        (omega (arith, count_swap (dead_at t) r.front r.entry changed r.back refl, ap (λ xs. count_by (dead_at t) xs) r.there)) (λ f. refl) refl (λ i. refl)) s
+    (quiet_stays kind t (Modules old ∷ []) (Modules (record old { records = r.front ++ changed ∷ r.back; away = run_on r.entry ∷ old.away }) ∷ []) ps qs moved
+    (omega (arith, count_swap (dead_at t) r.front r.entry changed r.back refl, ap (λ xs. count_by (dead_at t) xs) r.there)) (λ f. refl) refl (λ i. refl)) s
 row_still k kind t v w ps qs ok (Row.leaves {old} {new} r) b safe after none s =
     let changed : Record = record r.entry { users = r.entry.users - 1 } in
     let moved = subst (λ y. Becomes (Modules old ∷ []) (Modules y ∷ []) ps qs) r.after b in
     still_stays k kind t ps qs safe
-      (quiet_stays kind t (Modules old ∷ []) (Modules (record old { records = r.front ++ changed ∷ r.back; away = r.runs }) ∷ []) ps qs moved
-        (omega (arith, count_swap (dead_at t) r.front r.entry changed r.back refl, ap (λ xs. count_by (dead_at t) xs) r.there)) (λ f. refl) refl (λ i. refl)) s
+    (quiet_stays kind t (Modules old ∷ []) (Modules (record old { records = r.front ++ changed ∷ r.back; away = r.runs }) ∷ []) ps qs moved
+    (omega (arith, count_swap (dead_at t) r.front r.entry changed r.back refl, ap (λ xs. count_by (dead_at t) xs) r.there)) (λ f. refl) refl (λ i. refl)) s
 row_still k kind t v w ps qs ok (Row.marks_dead {old} {new} r) b safe after none s = cc
 row_still k kind t v w ps qs ok (Row.sweeps {old} {new} r) b safe after none s = cc
 row_still k kind t v w ps qs ok (Row.releases {left} {id} {old} {new} r) b safe after none s =
     let d : ListPart = record old { records = others id old.records; sweep = sweep.Done (without_id id left) } in
     let moved = subst (λ y. Becomes (Modules old ∷ []) (Modules y ∷ []) ps qs) r.after b in
     still_by_sweep kind t d qs (one_after (Modules old ∷ []) (Modules d ∷ []) ps qs old d (list_alone old) (list_alone d) moved safe.each.list)
-      (λ dead. becomes_same (counted kind t) (Modules old ∷ []) (Modules d ∷ []) ps qs moved refl ∙ s.nothing (omega (arith, moved.before (records_with (dead_at t)), moved.after (records_with (dead_at t)), sum_others (λ (x : Record). cond {A = ℕ} (dead_at t x) 1 0) id old.records))) tt
+    (λ dead. becomes_same (counted kind t) (Modules old ∷ []) (Modules d ∷ []) ps qs moved refl ∙ s.nothing (omega (arith, moved.before (records_with (dead_at t)), moved.after (records_with (dead_at t)), sum_others (λ (x : Record). cond {A = ℕ} (dead_at t x) 1 0) id old.records))) tt

@@ -1,5 +1,5 @@
 -- The laws that every state of the machine meets, between any two steps of any CPUs.
-use Rattle.std.specs.Prelude.{◌≡◌, ℕ, ◌+◌, ◌<◌, ◌≤◌, ◌==◌, ◌&&◌, ◌||◌, ◌⊎◌, not, nat_lt, nat_le, Bool, true, false, IsTrue, if◌then◌else◌, Option, Some, None, List, [], ◌∷◌, length, count_by, sum_by}
+use Rattle.std.specs.Prelude.{◌≡◌, ℕ, ◌+◌, ◌<◌, ◌≤◌, ◌==◌, ◌&&◌, ◌||◌, ◌⊎◌, not, nat_lt, nat_le, Bool, true, false, if◌then◌else◌, Option, Some, None, List, [], ◌∷◌, count_by, sum_by}
 use Rattle.std.specs.List.{list_any, list_all, flat_map}
 use Rattle.tag_model.specs.declared.shape.Shape.{Shape}
 use Rattle.tag_model.specs.declared.state.Tag.{Tag}
@@ -14,8 +14,6 @@ use Rattle.tag_model.specs.declared.state.Record.{Record}
 use Rattle.tag_model.specs.declared.state.Reader.{Reader}
 use Rattle.tag_model.specs.declared.state.Sweep.{Sweep}
 use Rattle.tag_model.specs.declared.state.Sweep.TheVariants as sweep
-use Rattle.tag_model.specs.declared.state.CpuPart.{CpuPart}
-use Rattle.tag_model.specs.declared.state.ListPart.{ListPart}
 use Rattle.tag_model.specs.declared.state.Part.{Part}
 use Rattle.tag_model.specs.declared.state.Part.TheVariants.{Cpu, Place, Modules, NextId}
 use Rattle.tag_model.specs.declared.limits.TheConstants.{MAX_PLACES}
