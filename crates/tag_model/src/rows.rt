@@ -1,10 +1,10 @@
 //! Each step of the step rules keeps all the laws. The functions do nothing: what they promise are laws of the
 //! definitions.
 
-ghost use Rattle.std.specs.List.{list_any};
+ghost use Rattle.std.specs.List.{list_all, list_any};
 ghost use Rattle.std.specs.Prelude.{ℕ, ◌≡◌, ◌<◌, ◌≤◌, ◌==◌, ◌&&◌, IsTrue, List, [], ◌∷◌, count_by, sum_by};
 ghost use Rattle.tag_model.specs.Histories.{IsHistory, Leads, PassHistory, last_state, stops_at};
-ghost use Rattle.tag_model.specs.Laws.{Safe, SumLaw, has_hand, live_of};
+ghost use Rattle.tag_model.specs.Laws.{OneOfEach, Safe, SumLaw, has_hand, is_fresh, is_held, live_of};
 ghost use Rattle.tag_model.specs.Reference.{live_total};
 ghost use Rattle.tag_model.specs.Shape.{IsChecked};
 ghost use Rattle.tag_model.specs.StepRules.{
@@ -19,7 +19,7 @@ ghost use Rattle.tag_model.specs.StepRules.{
   SubtractsCall,
   WritesPlace,
 };
-ghost use Rattle.tag_model.specs.WordState.{counted, counted_of, in_range, word_of};
+ghost use Rattle.tag_model.specs.WordState.{Every, counted, counted_of, in_range, word_of};
 ghost use Rattle.tag_model.specs.Wrap.{wrap};
 ghost use Rattle.tag_model.specs.declared.shape.Shape.{Shape};
 ghost use Rattle.tag_model.specs.declared.state.CpuPart.{CpuPart};
@@ -45,10 +45,12 @@ pub fn word_steps_keep_the_sums()
 {}
 
 /// Where no CPU has a hand, what is counted is what the live list holds, and so each tag's words are its bytes and
-/// references now live, modulo 2^64. The live list has no place twice.
+/// references now live, modulo 2^64. The live list has no place twice, and none that
+/// holds nothing.
 pub fn quiet_sums_are_those_of_the_live_list()
     ensures counted { (parts : List Part) (kind : Kind) (t : ℕ) → sum_by has_hand parts ≡ 0 → sum_by (counted kind t) parts ≡ live_total kind t (live_of parts) }
     ensures words { (k : Shape) (parts : List Part) (kind : Kind) (t : ℕ) → Safe k parts → sum_by has_hand parts ≡ 0 → wrap (sum_by (word_of kind t) parts) ≡ wrap (live_total kind t (live_of parts)) }
+    ensures none_holds_nothing { (parts : List Part) → IsTrue (list_all (λ (entry : ℕ × Held). is_held entry.1) (live_of parts)) }
     ensures no_place_twice { (k : Shape) (parts : List Part) (n : ℕ) → Safe k parts → count_by (λ (entry : ℕ × Held). entry.0 == n) (live_of parts) ≤ 1 }
 {}
 
@@ -79,4 +81,14 @@ pub fn histories_are_safe()
 /// a kind only where something of that kind was counted under the tag right after that step.
 pub fn a_stop_was_counted_as_its_pass_began()
     ensures { (k : Shape) (kind : Kind) (t : ℕ) (first begun last new : List Part) → IsChecked k → Safe k first → PassHistory k kind first begun last → Leads k last new → sum_by (stops_at kind t) last < sum_by (stops_at kind t) new → 0 < sum_by (counted kind t) begun }
+{}
+
+/// A state with one part of each kind, whose words are 0 and in which nothing is counted, loaded or swept, is safe.
+pub fn a_fresh_state_is_safe()
+    ensures { (k : Shape) (parts : List Part) → OneOfEach k parts → Every (is_fresh k) parts → Safe k parts }
+{}
+
+/// The laws read sums over the parts, so they ask neither for an order of the parts nor for who holds which.
+pub fn safe_in_any_order()
+    ensures { (k : Shape) (old new : List Part) → ((weight : Part → ℕ) → sum_by weight old ≡ sum_by weight new) → Safe k old → Safe k new }
 {}
