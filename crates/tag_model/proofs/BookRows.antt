@@ -1,34 +1,28 @@
 -- The changes of the module list that keep its records' ids and ranges keep all the laws: a sweep begins, a CPU enters or leaves, a record is marked dead.
-use Rattle.std.proofs.Common.{◌≡◌, ℕ, ◌+◌, ◌-◌, ◌<◌, ◌≤◌, ◌==◌, ◌&&◌, ◌||◌, ◌⊎◌, nat_lt, nat_le, List, [], ◌∷◌, ◌++◌, sum_by, count_by, refl, sym, ap, ◌∙◌, subst, inl, inr, arith, Bool, true, false, not, cond, eqb-true, ltb-true, eq-eqb, lt-ltb, if◌then◌else◌}
-use Rattle.std.specs.List.{list_any, list_all}
-use Rattle.std.proofs.lemmas.Bool.{and_parts, and_from, or_cases, or_left, or_right, false≢true, cases_Bool, cases_lt}
+use Rattle.std.proofs.Common.{◌≡◌, ℕ, ◌+◌, ◌-◌, ◌<◌, ◌≤◌, ◌==◌, ◌&&◌, ◌⊎◌, nat_lt, nat_le, List, [], ◌∷◌, ◌++◌, sum_by, count_by, refl, sym, ap, ◌∙◌, subst, inl, inr, arith, Bool, true, false, not, cond, eqb-true, eq-eqb, if◌then◌else◌}
+use Rattle.std.specs.List.{list_all}
+use Rattle.std.proofs.lemmas.Bool.{and_parts, and_from, false≢true, cases_Bool, cases_lt}
 use Rattle.std.proofs.lemmas.List.Sums.{sum_by-cons}
 use Rattle.tag_model.specs.declared.shape.Shape.{Shape}
-use Rattle.tag_model.specs.declared.state.CpuPart.{CpuPart}
-use Rattle.tag_model.specs.declared.state.Kind.{Kind}
 use Rattle.tag_model.specs.declared.state.Kind.TheVariants.{Bytes, Calls}
 use Rattle.tag_model.specs.declared.state.ListPart.{ListPart}
-use Rattle.tag_model.specs.declared.state.Note.{Note}
 use Rattle.tag_model.specs.declared.state.Part.{Part}
-use Rattle.tag_model.specs.declared.state.Part.TheVariants.{Cpu, Place, Modules, NextId}
+use Rattle.tag_model.specs.declared.state.Part.TheVariants.{Modules}
 use Rattle.tag_model.specs.declared.state.Record.{Record}
 use Rattle.tag_model.specs.declared.state.Run.{Run}
-use Rattle.tag_model.specs.declared.state.Stop.{Stop}
-use Rattle.tag_model.specs.declared.state.Sweep.{Sweep}
 use Rattle.tag_model.specs.declared.state.Tag.{Tag}
 use Rattle.tag_model.specs.Laws.{Safe, CoverLaw, IsCovered, is_loaded_as, same_run, same_note, contradicts, runs_of_cpu, rises_from, ids_of}
 use Rattle.tag_model.specs.Shape.{IsChecked}
-use Rattle.tag_model.specs.StepRules.{Sweeps, MarksDead, Enters, Leaves, Becomes, begins_pass, dead_ids, run_on}
+use Rattle.tag_model.specs.StepRules.{Sweeps, Enters, Leaves, Becomes, begins_pass, dead_ids, run_on}
 use Rattle.tag_model.specs.WordState.{one_if, Every, word_of, word_from, counted, counted_of, in_range, records_with, runs_with, notes_with, users_of, next_id, record_fits, part_fits}
 use Rattle.tag_model.proofs.Alike.{AlikeBook, book_after, cover_alike, of_users}
-use Rattle.tag_model.proofs.Found.{fails_none, any_at, all_at, sum_at, count_at, cond_more}
+use Rattle.tag_model.proofs.Found.{fails_none, sum_at, count_at}
 use Rattle.tag_model.proofs.Ids.{field_here}
 use Rattle.tag_model.proofs.ListRows.{OneList, list_alone, one_before, one_after, the_one, sweep_ok, sweep_from, sweep_ok_after, pass_base}
-use Rattle.tag_model.proofs.Lists.{Apart, RecordFits, record_fits_means}
-use Rattle.tag_model.proofs.Parts.{becomes_same, every_after, every_before}
-use Rattle.tag_model.proofs.Passes.{SweepOk, PassBase, begins_pass_ok}
-use Rattle.tag_model.proofs.Records.{SameEach, each_after, sum_swap, count_swap, any_swap, all_swap, ids_swap, rises_dead, dead_are_dead, sweep_moves, moves_users, runs_more}
-use Rattle.tag_model.proofs.Swept.{ListLaws, list_laws, LoadedAs, loaded_as_means}
+use Rattle.tag_model.proofs.Parts.{becomes_same, every_after}
+use Rattle.tag_model.proofs.Passes.{SweepOk, begins_pass_ok}
+use Rattle.tag_model.proofs.Records.{SameEach, each_after, count_swap, all_swap, ids_swap, rises_dead, dead_are_dead, sweep_moves, moves_users}
+use Rattle.tag_model.proofs.Swept.{ListLaws, list_laws}
 
 -- ---- what the steps on the list part alone share
 
@@ -52,16 +46,19 @@ list_step k l m ps qs b safe =
 
 pub list_kept : (k : Shape) (l m : ListPart) (ps qs : List Part) → ListStep k l m ps qs → list_all (record_fits k) m.records ≡ true → rises_from 0 (ids_of m.records) ≡ true → CoverLaw k qs → SweepOk k m.sweep m.records ps → Safe k qs
 list_kept k l m ps qs s fits rise cover ok = record {
-    fits = every_after (part_fits k) v w ps qs b (omega (arith, fails_none (list_all (record_fits k) m.records) fits)) s.safe.fits;
-    each = each_after k v w ps qs (same_modules l m) b s.safe.each;
-    sums = record { sums = λ kind t. rw (becomes_same (word_of kind t) v w ps qs b refl, becomes_same (counted kind t) v w ps qs b refl) (s.safe.sums.sums kind t) };
-    cover = cover;
-    sweep = sweep_from k m qs s.after rise (sweep_ok_after k m.sweep m.records ps qs (λ kind t. becomes_same (counted kind t) v w ps qs b refl) (λ i kind t. becomes_same (word_from i kind t) v w ps qs b refl) ok) }
+  fits = every_after (part_fits k) v w ps qs b (omega (arith, fails_none (list_all (record_fits k) m.records) fits)) s.safe.fits;
+  each = each_after k v w ps qs (same_modules l m) b s.safe.each;
+  sums = record { sums = λ kind t. rw (becomes_same (word_of kind t) v w ps qs b refl, becomes_same (counted kind t) v w ps qs b refl) (s.safe.sums.sums kind t) };
+  cover = cover;
+  sweep = sweep_from k m qs s.after rise (sweep_ok_after k m.sweep m.records ps qs (λ kind t. becomes_same (counted kind t) v w ps qs b refl) (λ i kind t. becomes_same (word_from i kind t) v w ps qs b refl) ok);
+}
   where
     v : List Part
     v = Modules l ∷ []
+
     w : List Part
     w = Modules m ∷ []
+
     b : Becomes v w ps qs
     b = s.becomes
 
@@ -70,15 +67,18 @@ list_kept k l m ps qs s fits rise cover ok = record {
 pub safe-sweeps : (k : Shape) (old new : ListPart) (ps qs : List Part) → IsChecked k → Sweeps old new → Becomes (Modules old ∷ []) (Modules new ∷ []) ps qs → Safe k ps → Safe k qs
 safe-sweeps k old new ps qs checked row steps safe =
     list_kept k old m ps qs s s.laws.records_fit s.laws.rise
-      (cover_alike k ps qs book safe.cover (λ tag h. safe.cover.named tag (omega (arith, becomes_same (counted_of Calls tag) (Modules old ∷ []) (Modules m ∷ []) ps qs s.becomes refl))))
-      (begins_pass_ok k Bytes (dead_ids old.records) old.records ps (pass_base k old ps checked s.laws safe) (rises_dead 0 old.records s.laws.rise) (dead_are_dead old.records) (λ e. absurd (false≢true e)))
+    (cover_alike k ps qs book safe.cover (λ tag h. safe.cover.named tag (omega (arith, becomes_same (counted_of Calls tag) (Modules old ∷ []) (Modules m ∷ []) ps qs s.becomes refl))))
+    (begins_pass_ok k Bytes (dead_ids old.records) old.records ps (pass_base k old ps checked s.laws safe) (rises_dead 0 old.records s.laws.rise) (dead_are_dead old.records) (λ e. absurd (false≢true e)))
   where
     m : ListPart
     m = record old { sweep = begins_pass Bytes (dead_ids old.records) old.records; stops = [] }
+
     s : ListStep k old m ps qs
     s = list_step k old m ps qs (subst (λ y. Becomes (Modules old ∷ []) (Modules y ∷ []) ps qs) row.after steps) safe
+
     alike : AlikeBook (Modules old ∷ []) (Modules m ∷ [])
     alike = record { cpus = λ n. refl; pass = refl; places = λ n. refl; few_places = refl; runs = λ test. refl; notes = λ test. refl; next = refl; one_run = λ id. refl; list = refl; records = λ test. refl; users = λ id. refl; high = λ next. refl }
+
     book : AlikeBook ps qs
     book = book_after (Modules old ∷ []) (Modules m ∷ []) ps qs alike s.becomes
 
@@ -105,39 +105,60 @@ users_kept : (k : Shape) (l : ListPart) (front : List Record) (entry : Record) (
     → Becomes (Modules (entered l front entry back was) ∷ []) (Modules (entered l front (record entry { users = users }) back away) ∷ []) ps qs → UsersMove entry users was away → Safe k ps → Safe k qs
 users_kept k l front entry back users was away ps qs b moves safe =
     list_kept k o n ps qs s (all_swap (record_fits k) front entry changed back refl ∙ s.laws.records_fit) (subst (λ ids. rises_from 0 ids ≡ true) (sym (ids_swap front entry changed back refl)) s.laws.rise) cover
-      (sweep_moves k l.sweep o.records n.records ps (λ left rises dead. moves_users left front entry back users) s.sweep)
+    (sweep_moves k l.sweep o.records n.records ps (λ left rises dead. moves_users left front entry back users) s.sweep)
   where
     changed : Record
     changed = record entry { users = users }
+
     o : ListPart
     o = entered l front entry back was
+
     n : ListPart
     n = entered l front changed back away
+
     s : ListStep k o n ps qs
     s = list_step k o n ps qs b safe
+
     same : (test : Record → Bool) → ((r : Record) (u : ℕ) → test (record r { users = u }) ≡ test r) → count_by test n.records ≡ count_by test o.records
     same test h = count_swap test front entry changed back (h entry users)
+
     records : (test : Record → Bool) → ((r : Record) (u : ℕ) → test (record r { users = u }) ≡ test r) → sum_by (records_with test) qs ≡ sum_by (records_with test) ps
     records test h = becomes_same (records_with test) (Modules o ∷ []) (Modules n ∷ []) ps qs b (omega (arith, same test h))
+
     cover : CoverLaw k qs
     cover = record {
       ids_below_next =
           subst (λ next. Every (λ p. (records_with (λ r. not (nat_lt r.id next)) p == 0)) qs) (sym (becomes_same next_id (Modules o ∷ []) (Modules n ∷ []) ps qs b refl))
-            (omega (arith, safe.cover.ids_below_next, becomes_same (λ p. one_if (not (records_with (λ r. not (nat_lt r.id (sum_by next_id ps))) p == 0))) (Modules o ∷ []) (Modules n ∷ []) ps qs b
-              (ap (λ x. 0 + one_if (not (x == 0))) (sym (same (λ r. not (nat_lt r.id (sum_by next_id ps))) (λ r u. refl))))));
+          (omega (
+            arith,
+            safe.cover.ids_below_next,
+            becomes_same (λ p. one_if (not (records_with (λ r. not (nat_lt r.id (sum_by next_id ps))) p == 0))) (Modules o ∷ []) (Modules n ∷ []) ps qs b
+                (ap (λ x. 0 + one_if (not (x == 0))) (sym (same (λ r. not (nat_lt r.id (sum_by next_id ps))) (λ r u. refl)))),
+          ));
       ids_apart = λ id. omega (arith, records (λ r. r.id == id) (λ r u. refl), safe.cover.ids_apart id);
       ranges_apart = λ t. omega (arith, records (λ r. in_range r.start r.length t) (λ r u. refl), safe.cover.ranges_apart t);
       named = λ tag h. covered_swap k o n ps qs b same tag (safe.cover.named tag (omega (arith, becomes_same (counted_of Calls tag) (Modules o ∷ []) (Modules n ∷ []) ps qs b refl)));
       runs = λ run h. runs run (cases_lt 0 (count_by (same_run run) away)) h;
       one_run = λ id. omega (arith, safe.cover.one_run id, becomes_same (λ p. one_if (not (nat_le (runs_of_cpu id p) 1))) (Modules o ∷ []) (Modules n ∷ []) ps qs b refl);
-      users = λ id. omega (arith, safe.cover.users id, b.before (runs_with (λ r. r.id == id)), b.after (runs_with (λ r. r.id == id)), b.before (users_of id), b.after (users_of id), moves.balance id,
-          sum_at (λ (r : Record). if r.id == id then r.users else 0) front entry back, sum_at (λ (r : Record). if r.id == id then r.users else 0) front changed back);
+      users = λ id. omega (
+        arith,
+        safe.cover.users id,
+        b.before (runs_with (λ r. r.id == id)),
+        b.after (runs_with (λ r. r.id == id)),
+        b.before (users_of id),
+        b.after (users_of id),
+        moves.balance id,
+        sum_at (λ (r : Record). if r.id == id then r.users else 0) front entry back,
+        sum_at (λ (r : Record). if r.id == id then r.users else 0) front changed back,
+      );
       notes_known = λ note h. omega (arith, becomes_same next_id (Modules o ∷ []) (Modules n ∷ []) ps qs b refl, safe.cover.notes_known note (omega (arith, becomes_same (notes_with (same_note note)) (Modules o ∷ []) (Modules n ∷ []) ps qs b refl)));
-      notes_agree = λ note h. omega (arith, records (contradicts note) (λ r u. refl), safe.cover.notes_agree note (omega (arith, becomes_same (notes_with (same_note note)) (Modules o ∷ []) (Modules n ∷ []) ps qs b refl))) }
+      notes_agree = λ note h. omega (arith, records (contradicts note) (λ r u. refl), safe.cover.notes_agree note (omega (arith, becomes_same (notes_with (same_note note)) (Modules o ∷ []) (Modules n ∷ []) ps qs b refl)));
+    }
       where
         of_entry : (run : Run) → (0 < count_by (same_run run) was) ⊎ (is_loaded_as run entry ≡ true) → 0 < sum_by (records_with (is_loaded_as run)) ps
         of_entry run (inl h) = safe.cover.runs run (omega (arith, b.before (runs_with (same_run run))))
         of_entry run (inr e) = omega (arith, b.before (records_with (is_loaded_as run)), count_at (is_loaded_as run) front entry back e)
+
         runs : (run : Run) → (0 < count_by (same_run run) away) ⊎ (count_by (same_run run) away ≤ 0) → 0 < sum_by (runs_with (same_run run)) qs → 0 < sum_by (records_with (is_loaded_as run)) qs
         runs run (inl there) h = omega (arith, records (is_loaded_as run) (λ r u. refl), of_entry run (moves.of_entry run there))
         runs run (inr none) h = omega (arith, records (is_loaded_as run) (λ r u. refl), safe.cover.runs run (omega (arith, b.before (runs_with (same_run run)), b.after (runs_with (same_run run)))))
@@ -151,16 +172,18 @@ run_on_entry run entry e loaded =
     let c = and_parts ((run.id == entry.id) && (run.section == entry.section)) (run.start == entry.start) d.0 in
     let b = and_parts (run.id == entry.id) (run.section == entry.section) c.0 in
     and_from _ _ (and_from _ _ (and_from _ _ (and_from _ _ (eq-eqb entry.id run.id (sym (eqb-true run.id entry.id b.0))) (eq-eqb entry.section run.section (sym (eqb-true run.section entry.section b.1))))
-      (eq-eqb entry.start run.start (sym (eqb-true run.start entry.start c.1)))) (eq-eqb entry.length run.length (sym (eqb-true run.length entry.length d.1)))) (ap not loaded)
+    (eq-eqb entry.start run.start (sym (eqb-true run.start entry.start c.1)))) (eq-eqb entry.length run.length (sym (eqb-true run.length entry.length d.1)))) (ap not loaded)
 
 enters_moves : (entry : Record) (was : List Run) → entry.dead ≡ false → UsersMove entry (entry.users + 1) was (run_on entry ∷ was)
 enters_moves entry was loaded = record {
-    balance = λ id. omega (arith, sum_by-cons (λ (r : Run). cond {A = ℕ} (r.id == id) 1 0) (run_on entry) was, one_more (entry.id == id) entry.users);
-    of_entry = λ run h. first run (cases_Bool (same_run run (run_on entry))) h }
+  balance = λ id. omega (arith, sum_by-cons (λ (r : Run). cond {A = ℕ} (r.id == id) 1 0) (run_on entry) was, one_more (entry.id == id) entry.users);
+  of_entry = λ run h. first run (cases_Bool (same_run run (run_on entry))) h;
+}
   where
     one_more : (b : Bool) (u : ℕ) → cond {A = ℕ} b (u + 1) 0 ≡ cond b 1 0 + cond b u 0
     one_more true u = omega arith
     one_more false u = refl
+
     first : (run : Run) → (same_run run (run_on entry) ≡ true) ⊎ (same_run run (run_on entry) ≡ false) → 0 < count_by (same_run run) (run_on entry ∷ was) → (0 < count_by (same_run run) was) ⊎ (is_loaded_as run entry ≡ true)
     first run (inl e) h = inr (run_on_entry run entry e loaded)
     first run (inr e) h =
@@ -169,8 +192,9 @@ enters_moves entry was loaded = record {
 
 leaves_moves : (entry : Record) (runs : List Run) → 0 < entry.users → UsersMove entry (entry.users - 1) (run_on entry ∷ runs) runs
 leaves_moves entry runs some = record {
-    balance = λ id. omega (arith, sum_by-cons (λ (r : Run). cond {A = ℕ} (r.id == id) 1 0) (run_on entry) runs, one_less (entry.id == id));
-    of_entry = λ run h. inl (omega (arith, sum_by-cons (λ (r : Run). cond {A = ℕ} (same_run run r) 1 0) (run_on entry) runs)) }
+  balance = λ id. omega (arith, sum_by-cons (λ (r : Run). cond {A = ℕ} (r.id == id) 1 0) (run_on entry) runs, one_less (entry.id == id));
+  of_entry = λ run h. inl (omega (arith, sum_by-cons (λ (r : Run). cond {A = ℕ} (same_run run r) 1 0) (run_on entry) runs));
+}
   where
     one_less : (b : Bool) → cond {A = ℕ} b entry.users 0 ≡ cond b 1 0 + cond b (entry.users - 1) 0
     one_less true = omega arith
@@ -179,9 +203,9 @@ leaves_moves entry runs some = record {
 pub safe-enters : (k : Shape) (old new : ListPart) (ps qs : List Part) → IsChecked k → Enters old new → Becomes (Modules old ∷ []) (Modules new ∷ []) ps qs → Safe k ps → Safe k qs
 safe-enters k old new ps qs checked row steps safe =
     users_kept k old row.front row.entry row.back (row.entry.users + 1) old.away (run_on row.entry ∷ old.away) ps qs
-      (subst (λ y. Becomes (Modules y ∷ []) (Modules (entered old row.front (record row.entry { users = row.entry.users + 1 }) row.back (run_on row.entry ∷ old.away)) ∷ []) ps qs) (with_records old (row.front ++ row.entry ∷ row.back) row.there)
-        (subst (λ y. Becomes (Modules old ∷ []) (Modules y ∷ []) ps qs) row.after steps))
-      (enters_moves row.entry old.away row.loaded) safe
+    (subst (λ y. Becomes (Modules y ∷ []) (Modules (entered old row.front (record row.entry { users = row.entry.users + 1 }) row.back (run_on row.entry ∷ old.away)) ∷ []) ps qs) (with_records old (row.front ++ row.entry ∷ row.back) row.there)
+    (subst (λ y. Becomes (Modules old ∷ []) (Modules y ∷ []) ps qs) row.after steps))
+    (enters_moves row.entry old.away row.loaded) safe
 
 pub safe-leaves : (k : Shape) (old new : ListPart) (ps qs : List Part) → IsChecked k → Leaves old new → Becomes (Modules old ∷ []) (Modules new ∷ []) ps qs → Safe k ps → Safe k qs
 safe-leaves k old new ps qs checked row steps safe =
@@ -189,15 +213,25 @@ safe-leaves k old new ps qs checked row steps safe =
   where
     o : ListPart
     o = entered old row.front row.entry row.back (run_on row.entry ∷ row.runs)
+
     n : ListPart
     n = entered old row.front (record row.entry { users = row.entry.users - 1 }) row.back row.runs
+
     b : Becomes (Modules o ∷ []) (Modules n ∷ []) ps qs
     b = subst (λ y. Becomes (Modules y ∷ []) (Modules n ∷ []) ps qs) (λ i. record old { records = row.there i; away = row.running i }) (subst (λ y. Becomes (Modules old ∷ []) (Modules y ∷ []) ps qs) row.after steps)
+
     s : ListStep k o n ps qs
     s = list_step k o n ps qs b safe
+
     -- the run that ends is one of the record's users
     some : 0 < row.entry.users
     some =
         let here : cond {A = ℕ} (row.entry.id == row.entry.id) 1 0 ≡ 1 = rw (eq-eqb row.entry.id row.entry.id refl) refl in
-        omega (arith, safe.cover.users row.entry.id, b.before (runs_with (λ r. r.id == row.entry.id)), sum_by-cons (λ (r : Run). cond {A = ℕ} (r.id == row.entry.id) 1 0) (run_on row.entry) row.runs,
-          s.before.only (users_of row.entry.id) (of_users row.entry.id), field_here (λ r. r.users) row.front row.entry row.back row.entry.id refl (s.laws.apart row.entry.id))
+        omega (
+          arith,
+          safe.cover.users row.entry.id,
+          b.before (runs_with (λ r. r.id == row.entry.id)),
+          sum_by-cons (λ (r : Run). cond {A = ℕ} (r.id == row.entry.id) 1 0) (run_on row.entry) row.runs,
+          s.before.only (users_of row.entry.id) (of_users row.entry.id),
+          field_here (λ r. r.users) row.front row.entry row.back row.entry.id refl (s.laws.apart row.entry.id),
+        )

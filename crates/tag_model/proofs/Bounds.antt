@@ -1,11 +1,10 @@
 -- What is counted stays below 2^63, so where a sweep begins to read a tag, all its words together are at least what is counted.
-use Rattle.std.proofs.Common.{◌≡◌, ℕ, ◌+◌, ◌*◌, ◌^◌, ◌%◌, ◌<◌, ◌≤◌, ◌==◌, ◌&&◌, ◌⊎◌, nat_lt, nat_le, List, [], ◌∷◌, sum_by, refl, sym, ap, arith, cond, Bool, true, false, not, Option, Some, None, slice_index, zero, suc, ltb-true, leb-true, lt-ltb, le-ltb, le-leb, inl, inr, zero-add}
+use Rattle.std.proofs.Common.{◌≡◌, ℕ, ◌+◌, ◌*◌, ◌^◌, ◌<◌, ◌≤◌, ◌==◌, nat_lt, nat_le, List, [], ◌∷◌, sum_by, refl, arith, cond, Bool, true, false, not, Option, Some, None, slice_index, zero, suc, ltb-true, le-ltb, le-leb, zero-add}
 use Rattle.std.proofs.lemmas.Bool.{and_parts}
 use Rattle.std.proofs.lemmas.Bool.Decides.{nat_tests}
-use Rattle.std.proofs.lemmas.List.Sums.{sum_by-cons, sum_by-le-sum_by}
-use Rattle.tag_model.specs.declared.limits.TheConstants.{SIZE_END, MAX_HAND_CALLS, MAX_PLACES, MAX_CPUS}
+use Rattle.std.proofs.lemmas.List.Sums.{sum_by-cons}
+use Rattle.tag_model.specs.declared.limits.TheConstants.{SIZE_END}
 use Rattle.tag_model.specs.declared.shape.Shape.{Shape}
-use Rattle.tag_model.specs.declared.state.CpuPart.{CpuPart}
 use Rattle.tag_model.specs.declared.state.Hand.{Hand}
 use Rattle.tag_model.specs.declared.state.Held.{Held}
 use Rattle.tag_model.specs.declared.state.Held.TheVariants as held
@@ -14,11 +13,11 @@ use Rattle.tag_model.specs.declared.state.Kind.TheVariants.{Bytes, Calls}
 use Rattle.tag_model.specs.declared.state.Part.{Part}
 use Rattle.tag_model.specs.declared.state.Part.TheVariants.{Cpu, Place, Modules, NextId}
 use Rattle.tag_model.specs.Laws.{OneOfEach, SumLaw}
-use Rattle.tag_model.specs.Reference.{amount, hand_counts, held_counts, hand_fits, held_fits}
+use Rattle.tag_model.specs.Reference.{hand_counts, held_counts, hand_fits, held_fits}
 use Rattle.tag_model.specs.Shape.{IsChecked}
 use Rattle.tag_model.specs.Wrap.{wrap}
 use Rattle.tag_model.specs.WordState.{one_if, Every, word_place, word_of, word_from, counted, is_cpu, is_place, part_fits}
-use Rattle.tag_model.proofs.CpuFits.{HandFits, hand_fits_means, CpuFits, cpu_fits_means}
+use Rattle.tag_model.proofs.CpuFits.{hand_fits_means, cpu_fits_means}
 use Rattle.tag_model.proofs.Found.{none_fails}
 
 pub sum_same : (f g : Part → ℕ) (ps : List Part) → ((p : Part) → f p ≡ g p) → sum_by f ps ≡ sum_by g ps

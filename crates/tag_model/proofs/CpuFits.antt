@@ -1,26 +1,24 @@
 -- A CPU in its bounds, part by part, and what its hand counts.
-use Rattle.std.proofs.Common.{◌≡◌, ℕ, ◌+◌, ◌*◌, ◌<◌, ◌≤◌, ◌==◌, ◌&&◌, ◌||◌, ◌⊎◌, nat_lt, nat_le, List, [], ◌∷◌, length, sum_by, refl, sym, ap, subst, inl, inr, arith, Bool, true, false, not, eqb-true, ltb-true, leb-true, eq-eqb, le-leb, lt-ltb, ne_eqb, Option, Some, None, if◌then◌else◌, cond, ◌∙◌}
+use Rattle.std.proofs.Common.{◌≡◌, ℕ, ◌*◌, ◌<◌, ◌≤◌, ◌==◌, ◌&&◌, ◌||◌, nat_lt, nat_le, List, length, refl, subst, inl, inr, arith, Bool, true, false, not, eqb-true, ltb-true, leb-true, eq-eqb, le-leb, lt-ltb, ne_eqb, Some, cond}
 use Rattle.std.specs.List.{list_any, list_all}
-use Rattle.std.proofs.lemmas.Bool.{and_parts, and_from, false≢true, or_cases, cases_eq}
+use Rattle.std.proofs.lemmas.Bool.{and_parts, and_from}
 use Rattle.tag_model.specs.declared.limits.TheConstants.{SIZE_END, MAX_HAND_CALLS}
 use Rattle.tag_model.specs.declared.shape.Shape.{Shape}
 use Rattle.tag_model.specs.declared.state.CpuPart.{CpuPart}
 use Rattle.tag_model.specs.declared.state.Hand.{Hand}
-use Rattle.tag_model.specs.declared.state.Held.{Held}
-use Rattle.tag_model.specs.declared.state.Held.TheVariants as held
 use Rattle.tag_model.specs.declared.state.Kind.{Kind}
-use Rattle.tag_model.specs.declared.state.Kind.TheVariants.{Bytes, Calls}
+use Rattle.tag_model.specs.declared.state.Kind.TheVariants.{Calls}
 use Rattle.tag_model.specs.declared.state.Part.{Part}
-use Rattle.tag_model.specs.declared.state.Part.TheVariants.{Cpu, Place, Modules, NextId}
+use Rattle.tag_model.specs.declared.state.Part.TheVariants.{Cpu}
 use Rattle.tag_model.specs.declared.state.Record.{Record}
 use Rattle.tag_model.specs.declared.state.Run.{Run}
 use Rattle.tag_model.specs.declared.state.Tag.{Tag}
 use Rattle.tag_model.specs.Laws.{CoverLaw, IsCovered}
-use Rattle.tag_model.specs.Reference.{amount, same_tag, held_counts, hand_counts, held_counts_of, hand_counts_of, hand_fits}
+use Rattle.tag_model.specs.Reference.{amount, same_tag, hand_counts, hand_counts_of, hand_fits}
 use Rattle.tag_model.specs.WordState.{Every, in_range, records_with, record_fits, part_fits, cpu_fits, hand_may_open, counted_of}
 use Rattle.tag_model.proofs.Alike.{of_records}
 use Rattle.tag_model.proofs.Found.{found, all_at}
-use Rattle.tag_model.proofs.Lists.{RecordFits, record_fits_means}
+use Rattle.tag_model.proofs.Lists.{record_fits_means}
 use Rattle.tag_model.proofs.Parts.{TheList}
 use Rattle.tag_model.proofs.Swept.{Holds, ListLaws, IsLive, run_on_loaded, live_from_run, part_passes}
 
@@ -98,9 +96,11 @@ opening_live k c h ps t laws stands fits cover is opens =
   where
     open_test : (not h.opening || (h.tag.module == 0) || list_any (λ (r : Run). (r.id == h.tag.module) && in_range r.start r.length h.tag.number) c.runs) ≡ true
     open_test = subst (λ o. hand_may_open o c.runs ≡ true) is (cpu_fits_means k c (part_passes (part_fits k) ps (Cpu c) stands fits)).may_open
+
     ran : (h.tag.module == 0) ≡ false → list_any (λ (r : Run). (r.id == h.tag.module) && in_range r.start r.length h.tag.number) c.runs ≡ true
     ran e = subst (λ b. (b || list_any (λ (r : Run). (r.id == h.tag.module) && in_range r.start r.length h.tag.number) c.runs) ≡ true) e
-              (subst (λ o. (not o || (h.tag.module == 0) || list_any (λ (r : Run). (r.id == h.tag.module) && in_range r.start r.length h.tag.number) c.runs) ≡ true) opens open_test)
+        (subst (λ o. (not o || (h.tag.module == 0) || list_any (λ (r : Run). (r.id == h.tag.module) && in_range r.start r.length h.tag.number) c.runs) ≡ true) opens open_test)
+
     go : (b : Bool) → (h.tag.module == 0) ≡ b → IsCovered k ps h.tag → IsLive k ps h.tag.number
     go false e covered = live_from_run k ps h.tag (run_on_loaded k c ps h.tag stands cover (ran e))
     go true e (inl kernel) = inl kernel.1

@@ -1,12 +1,12 @@
 -- Lists of ids that rise, as a sweep's list and the ids of the records, and the fields of the one record of an id.
-use Rattle.std.proofs.Common.{◌≡◌, ℕ, ◌+◌, ◌<◌, ◌≤◌, ◌==◌, ◌&&◌, ◌||◌, ◌⊎◌, nat_lt, nat_le, List, [], ◌∷◌, ◌++◌, map, sum_by, count_by, filter, find, refl, sym, ap, ◌∙◌, subst, inl, inr, arith, Bool, true, false, not, cond, Option, Some, None, eqb-true, ltb-true, leb-true, eq-eqb, le-leb, lt-ltb, le-ltb, ltb-false, if◌then◌else◌}
+use Rattle.std.proofs.Common.{◌≡◌, ℕ, ◌+◌, ◌<◌, ◌≤◌, ◌==◌, ◌&&◌, ◌⊎◌, nat_lt, List, [], ◌∷◌, ◌++◌, sum_by, count_by, filter, find, refl, sym, ◌∙◌, subst, inl, inr, arith, Bool, true, false, not, cond, Some, None, eqb-true, ltb-true, eq-eqb, lt-ltb, ltb-false, if◌then◌else◌}
 use Rattle.std.specs.List.{list_any, list_all}
-use Rattle.std.proofs.lemmas.Bool.{and_parts, and_from, or_cases, or_left, or_right, false≢true, not-true, eqb-false, lt-leb}
+use Rattle.std.proofs.lemmas.Bool.{and_parts, and_from, or_cases, or_left, or_right, false≢true, not-true, eqb-false}
 use Rattle.std.proofs.lemmas.List.Sums.{sum_by-cons}
 use Rattle.tag_model.specs.declared.state.Record.{Record}
-use Rattle.tag_model.specs.Laws.{is_listed, rises_from, ids_of, are_dead}
-use Rattle.tag_model.specs.StepRules.{start_of, end_of, without_id, dead_ids}
-use Rattle.tag_model.proofs.Found.{Found, found, found_any, sum_at, all_at, any_at}
+use Rattle.tag_model.specs.Laws.{is_listed, rises_from, are_dead}
+use Rattle.tag_model.specs.StepRules.{start_of, end_of, without_id}
+use Rattle.tag_model.proofs.Found.{Found, found_any, sum_at, any_at}
 use Rattle.tag_model.proofs.Lists.{Apart}
 
 -- ---- lists that rise
@@ -54,13 +54,15 @@ find_some low id (x ∷ xs) next r e =
         → (find (nat_lt id) xs ≡ Some next → (is_listed xs next ≡ true) × ((other : ℕ) → is_listed xs other ≡ true → other < next → other ≤ id))
         → (is_listed (x ∷ xs) next ≡ true) × ((other : ℕ) → is_listed (x ∷ xs) other ≡ true → other < next → other ≤ id)
     some_head id x xs next true is r e later =
-        let same : x ≡ next = cc in
-        (or_left (x == next) (is_listed xs next) (eq-eqb x next same),
-         λ other listed below. elim (listed_cons x xs other listed) [ inl here ↦ absurd (omega (arith, same, here, below)) | inr there ↦ absurd (omega (arith, same, below, rises_above x xs other r there)) ])
+        let same : x ≡ next = cc in (
+          or_left (x == next) (is_listed xs next) (eq-eqb x next same),
+          λ other listed below. elim (listed_cons x xs other listed) [ inl here ↦ absurd (omega (arith, same, here, below)) | inr there ↦ absurd (omega (arith, same, below, rises_above x xs other r there)) ],
+        )
     some_head id x xs next false is r e later =
-        let rest = later e in
-        (or_right (x == next) (is_listed xs next) rest.0,
-         λ other listed below. elim (listed_cons x xs other listed) [ inl here ↦ omega (arith, ltb-false id x is, here) | inr there ↦ rest.1 other there below ])
+        let rest = later e in (
+          or_right (x == next) (is_listed xs next) rest.0,
+          λ other listed below. elim (listed_cons x xs other listed) [ inl here ↦ omega (arith, ltb-false id x is, here) | inr there ↦ rest.1 other there below ],
+        )
 
 -- ---- filtered lists
 
@@ -113,9 +115,10 @@ dead_without id left records e = all_filter (λ other. list_any (λ (r : Record)
 pub listed_without : (id : ℕ) (left : List ℕ) (other : ℕ) → is_listed (without_id id left) other ≡ true → (is_listed left other ≡ true) × (other ≡ id → ⊥)
 listed_without id left other e =
     let f = found_any (λ (x : ℕ). (x == other) && not (x == id)) left (any_filter (λ x. x == other) (λ x. not (x == id)) left e) in
-    let both = and_parts (f.item == other) (not (f.item == id)) f.passes in
-    (subst (λ xs. is_listed xs other ≡ true) (sym f.is) (any_at (λ x. x == other) f.front f.item f.back both.0),
-     λ is. eqb-false f.item id (not-true _ both.1) (eqb-true f.item other both.0 ∙ is))
+    let both = and_parts (f.item == other) (not (f.item == id)) f.passes in (
+      subst (λ xs. is_listed xs other ≡ true) (sym f.is) (any_at (λ x. x == other) f.front f.item f.back both.0),
+      λ is. eqb-false f.item id (not-true _ both.1) (eqb-true f.item other both.0 ∙ is),
+    )
 
 -- ---- the record of an id
 
@@ -148,4 +151,5 @@ range_of id records apart f =
     let one = subst (λ xs. count_by (λ (x : Record). x.id == id) xs ≤ 1) f.is (apart id) in
     record {
       start = subst (λ xs. start_of id xs ≡ f.item.start) (sym f.is) (field_here (λ r. r.start) f.front f.item f.back id is one);
-      end = subst (λ xs. end_of id xs ≡ f.item.start + f.item.length) (sym f.is) (field_here (λ r. r.start + r.length) f.front f.item f.back id is one) }
+      end = subst (λ xs. end_of id xs ≡ f.item.start + f.item.length) (sym f.is) (field_here (λ r. r.start + r.length) f.front f.item f.back id is one);
+    }

@@ -6,6 +6,7 @@ pub mod CpuFits
 pub mod CpuRows
 pub mod DeadRow
 pub mod Found
+pub mod Fresh
 pub mod Ids
 pub mod ListRows
 pub mod Lists
@@ -15,9 +16,13 @@ pub mod Moved
 pub mod Parts
 pub mod Passes
 pub mod PlaceRow
+pub mod Places
 pub mod Records
 pub mod ReleaseRow
 pub mod ScanRow
 pub mod Steps
+pub mod Still
+pub mod StopLaw
+pub mod Stops
 pub mod Swept
 pub mod Words

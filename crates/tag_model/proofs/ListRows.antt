@@ -1,30 +1,27 @@
 -- A step on the module list: the list part before it and after it, and the sweep law of a state by its list part.
-use Rattle.std.proofs.Common.{◌≡◌, ℕ, ◌+◌, ◌<◌, ◌≤◌, ◌==◌, ◌&&◌, nat_lt, nat_le, List, [], ◌∷◌, sum_by, count_by, refl, sym, subst, arith, Bool, true, false, not}
-use Rattle.std.specs.List.{list_any, list_all}
-use Rattle.std.proofs.lemmas.Bool.{and_parts, and_from, false≢true}
+use Rattle.std.proofs.Common.{◌≡◌, ℕ, ◌+◌, ◌<◌, ◌≤◌, List, [], ◌∷◌, sum_by, refl, sym, subst, arith, true, not}
+use Rattle.std.proofs.lemmas.Bool.{and_from}
 use Rattle.tag_model.specs.declared.shape.Shape.{Shape}
 use Rattle.tag_model.specs.declared.state.CpuPart.{CpuPart}
 use Rattle.tag_model.specs.declared.state.Kind.{Kind}
 use Rattle.tag_model.specs.declared.state.Kind.TheVariants.{Bytes, Calls}
 use Rattle.tag_model.specs.declared.state.ListPart.{ListPart}
 use Rattle.tag_model.specs.declared.state.Part.{Part}
-use Rattle.tag_model.specs.declared.state.Part.TheVariants.{Cpu, Place, Modules, NextId}
-use Rattle.tag_model.specs.declared.state.Reader.{Reader}
+use Rattle.tag_model.specs.declared.state.Part.TheVariants.{Cpu, Modules, NextId}
 use Rattle.tag_model.specs.declared.state.Record.{Record}
-use Rattle.tag_model.specs.declared.state.Stop.{Stop}
 use Rattle.tag_model.specs.declared.state.Sweep.{Sweep}
 use Rattle.tag_model.specs.declared.state.Sweep.TheVariants as sweep
-use Rattle.tag_model.specs.Laws.{Safe, OneOfEach, SweepLaw, cleared, is_reading, of_reader, reader_number, same_kind, tag_read, cpu_read, has_cleared, list_fits, sweep_fits, rises_from, ids_of}
+use Rattle.tag_model.specs.Laws.{Safe, SweepLaw, cleared, is_reading, of_reader, reader_number, same_kind, tag_read, cpu_read, has_cleared, list_fits, rises_from, ids_of}
 use Rattle.tag_model.specs.Shape.{IsChecked}
 use Rattle.tag_model.specs.StepRules.{Becomes}
 use Rattle.tag_model.specs.Wrap.{wrap}
-use Rattle.tag_model.specs.WordState.{one_if, Every, word_from, counted, is_list, part_fits}
-use Rattle.tag_model.proofs.Alike.{AlikeBook, of_list, of_field, of_reading, of_cleared, of_fits}
+use Rattle.tag_model.specs.WordState.{one_if, word_from, counted, is_list}
+use Rattle.tag_model.proofs.Alike.{of_list, of_field, of_reading, of_cleared, of_fits}
 use Rattle.tag_model.proofs.Bounds.{fresh}
 use Rattle.tag_model.proofs.Found.{fails_none}
 use Rattle.tag_model.proofs.Parts.{IsOfList, TheList, no_list}
 use Rattle.tag_model.proofs.Passes.{SweepOk, ReadsEnough, PassBase}
-use Rattle.tag_model.proofs.Swept.{ListLaws, list_laws, one_if_true}
+use Rattle.tag_model.proofs.Swept.{ListLaws, one_if_true}
 
 -- the parts have one list part, this one
 pub record OneList (l : ListPart) (v : List Part) : Type 0 where
@@ -47,19 +44,21 @@ rest_has_none v w ps qs l o b one = omega (arith, b.before is_list, o.only is_li
 pub one_before : (v w ps qs : List Part) (l : ListPart) → OneList l v → Becomes v w ps qs → sum_by is_list ps ≡ 1 → OneList l ps
 one_before v w ps qs l o b one = record {
   only = λ f of. omega (arith, b.before f, o.only f of, no_list b.rest (rest_has_none v w ps qs l o b one) f of);
-  stands = λ f. omega (arith, b.before f, o.stands f) }
+  stands = λ f. omega (arith, b.before f, o.stands f);
+}
 
 pub one_after : (v w ps qs : List Part) (l m : ListPart) → OneList l v → OneList m w → Becomes v w ps qs → sum_by is_list ps ≡ 1 → OneList m qs
 one_after v w ps qs l m o p b one = record {
   only = λ f of. omega (arith, b.after f, p.only f of, no_list b.rest (rest_has_none v w ps qs l o b one) f of);
-  stands = λ f. omega (arith, b.after f, p.stands f) }
+  stands = λ f. omega (arith, b.after f, p.stands f);
+}
 
 abbrev pub the_one : {l : ListPart} {ps : List Part} → OneList l ps → TheList ps
 the_one {l} o = record { l = l; only = o.only; stands = o.stands }
 
 -- ---- the sweep law by the list part
 
-same_kind_refl : (kind : Kind) → same_kind kind kind ≡ true
+pub same_kind_refl : (kind : Kind) → same_kind kind kind ≡ true
 same_kind_refl Bytes = refl
 same_kind_refl Calls = refl
 
@@ -79,9 +78,10 @@ sweep_ok k l ps o laws law = record {
       (λ kind h. law.reading kind (omega (arith, o.only (is_reading kind) (of_reading kind))));
   cleared = λ kind t e.
       let one : one_if (has_cleared l.sweep kind t l.records) ≡ 1 = rw e refl in
-      law.cleared kind t (omega (arith, o.only (cleared kind t) (of_cleared kind t))) }
+      law.cleared kind t (omega (arith, o.only (cleared kind t) (of_cleared kind t)));
+}
 
-same_kind_means : (a b : Kind) → 0 < one_if (same_kind a b) → a ≡ b
+pub same_kind_means : (a b : Kind) → 0 < one_if (same_kind a b) → a ≡ b
 same_kind_means Bytes Bytes h = refl
 same_kind_means Bytes Calls h = absurd (omega arith)
 same_kind_means Calls Bytes h = absurd (omega arith)
@@ -99,8 +99,9 @@ sweep_from k l ps o rise ok = record {
   fits = omega (arith, o.only (λ p. one_if (not (list_fits k p))) (of_fits k), fails_none (list_fits k (Modules l)) (and_from _ _ rise ok.fits));
   reading = λ kind h.
       rw (o.only (of_reader (λ r. r.tag)) (of_field _), o.only (of_reader (λ r. r.cpu)) (of_field _), o.only (of_reader (λ r. r.sum)) (of_field _))
-        (read_enough l.sweep ps ok.reading kind (omega (arith, o.only (is_reading kind) (of_reading kind))));
-  cleared = λ kind t h. ok.cleared kind t (one_if_true (has_cleared l.sweep kind t l.records) (omega (arith, o.only (cleared kind t) (of_cleared kind t)))) }
+      (read_enough l.sweep ps ok.reading kind (omega (arith, o.only (is_reading kind) (of_reading kind))));
+  cleared = λ kind t h. ok.cleared kind t (one_if_true (has_cleared l.sweep kind t l.records) (omega (arith, o.only (cleared kind t) (of_cleared kind t))));
+}
 
 -- a sweep asks only for what is counted and for the words
 pub sweep_ok_after : (k : Shape) (s : Sweep) (records : List Record) (ps qs : List Part) → ((kind : Kind) (t : ℕ) → sum_by (counted kind t) qs ≡ sum_by (counted kind t) ps) → ((i : ℕ) (kind : Kind) (t : ℕ) → sum_by (word_from i kind t) qs ≡ sum_by (word_from i kind t) ps)
@@ -108,7 +109,8 @@ pub sweep_ok_after : (k : Shape) (s : Sweep) (records : List Record) (ps qs : Li
 sweep_ok_after k s records ps qs counts words ok = record {
   fits = ok.fits;
   reading = go s ok.reading;
-  cleared = λ kind t e. omega (arith, counts kind t, ok.cleared kind t e) }
+  cleared = λ kind t e. omega (arith, counts kind t, ok.cleared kind t e);
+}
   where
     go : (s : Sweep) → ReadsEnough s ps → ReadsEnough s qs
     go sweep.None e = tt

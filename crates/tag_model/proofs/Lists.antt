@@ -1,23 +1,20 @@
 -- The module list's records: which range a tag lies in, and that a swept tag lies in a dead record's range.
-use Rattle.std.proofs.Common.{◌≡◌, ℕ, ◌+◌, ◌<◌, ◌≤◌, ◌==◌, ◌&&◌, ◌||◌, ◌⊎◌, nat_lt, nat_le, List, [], ◌∷◌, ◌++◌, sum_by, count_by, refl, sym, ap, subst, inl, inr, arith, Bool, true, false, not, IsTrue, eqb, eqb-true, ltb-true, leb-true, eq-eqb, le-leb, lt-ltb, ◌∙◌, if◌then◌else◌}
+use Rattle.std.proofs.Common.{◌≡◌, ℕ, ◌+◌, ◌<◌, ◌≤◌, ◌==◌, ◌&&◌, ◌||◌, nat_lt, nat_le, List, [], sum_by, count_by, refl, sym, ap, subst, arith, Bool, true, false, not, eqb-true, ltb-true, leb-true, eq-eqb, le-leb, lt-ltb, if◌then◌else◌}
 use Rattle.std.specs.List.{list_any, list_all}
-use Rattle.std.proofs.lemmas.Bool.{and_parts, and_from, false≢true, not-true, true_from_ne_false}
+use Rattle.std.proofs.lemmas.Bool.{and_parts, and_from, false≢true, true_from_ne_false}
 use Rattle.std.proofs.lemmas.List.Sums.{sum_by-le-sum_by}
 use Rattle.tag_model.specs.declared.shape.Shape.{Shape}
-use Rattle.tag_model.specs.declared.state.Held.{Held}
 use Rattle.tag_model.specs.declared.state.Kind.{Kind}
 use Rattle.tag_model.specs.declared.state.Kind.TheVariants.{Bytes, Calls}
-use Rattle.tag_model.specs.declared.state.CpuPart.{CpuPart}
-use Rattle.tag_model.specs.declared.state.ListPart.{ListPart}
 use Rattle.tag_model.specs.declared.state.Part.{Part}
 use Rattle.tag_model.specs.declared.state.Part.TheVariants.{Cpu, Place, Modules, NextId}
 use Rattle.tag_model.specs.declared.state.Reader.{Reader}
 use Rattle.tag_model.specs.declared.state.Record.{Record}
 use Rattle.tag_model.specs.declared.state.Sweep.{Sweep}
 use Rattle.tag_model.specs.declared.state.Sweep.TheVariants as sweep
-use Rattle.tag_model.specs.Laws.{is_listed, covers_listed, covers_read, is_calls, has_cleared, are_dead, rises_from, ids_of, sweep_fits, list_fits}
+use Rattle.tag_model.specs.Laws.{is_listed, covers_listed, covers_read, is_calls, has_cleared, are_dead, rises_from, sweep_fits}
 use Rattle.tag_model.specs.WordState.{in_range, records_with, record_fits}
-use Rattle.tag_model.proofs.Found.{Found, found, found_any, all_at, any_at, count_at, count_more, count_apart}
+use Rattle.tag_model.proofs.Found.{found, found_any, all_at, any_at, count_at, count_more, count_apart}
 
 -- ---- a record in whose range a tag lies
 
@@ -39,8 +36,11 @@ never_both false e h = false≢true e
 
 pub apart_counts : (t : ℕ) (records : List Record) → count_by (λ (r : Record). in_range r.start r.length t) records ≤ 1 → 0 < count_by (dead_at t) records → 0 < count_by (loaded_at t) records → ⊥
 apart_counts t records one dead loaded =
-    omega (arith, count_apart (dead_at t) (loaded_at t) (λ (r : Record). in_range r.start r.length t) records (λ r e. (and_parts _ _ e).1) (λ r e. (and_parts _ _ e).1)
-      (λ r e f. never_both r.dead (and_parts _ _ e).0 (and_parts _ _ f).0))
+    omega (
+      arith,
+      count_apart (dead_at t) (loaded_at t) (λ (r : Record). in_range r.start r.length t) records (λ r e. (and_parts _ _ e).1) (λ r e. (and_parts _ _ e).1)
+          (λ r e f. never_both r.dead (and_parts _ _ e).0 (and_parts _ _ f).0),
+    )
 
 -- what it is for a record to fit
 pub record RecordFits (k : Shape) (r : Record) : Type 0 where
@@ -116,9 +116,13 @@ dead_in_range t id records apart dead ranged =
     let one_dead : 0 < count_by (λ (r : Record). (r.id == id) && r.dead) records = subst (λ xs. 0 < count_by (λ (r : Record). (r.id == id) && r.dead) xs) (sym d.is) (count_at (λ (r : Record). (r.id == id) && r.dead) d.front d.item d.back d.passes) in
     let parts = and_parts _ _ f.passes in
     let is_dead : f.item.dead ≡ true = true_from_ne_false _ (λ e.
-          let one_live : 0 < count_by (λ (r : Record). (r.id == id) && not r.dead) records = subst (λ xs. 0 < count_by (λ (r : Record). (r.id == id) && not r.dead) xs) (sym f.is) (count_at (λ (r : Record). (r.id == id) && not r.dead) f.front f.item f.back (and_from _ _ parts.0 (ap not e))) in
-          omega (arith, apart id, count_apart (λ (r : Record). (r.id == id) && r.dead) (λ (r : Record). (r.id == id) && not r.dead) (λ (r : Record). r.id == id) records (λ r e. (and_parts _ _ e).0) (λ r e. (and_parts _ _ e).0)
-            (λ r e f. never_both r.dead (and_parts _ _ e).1 (and_parts _ _ f).1))) in
+    let one_live : 0 < count_by (λ (r : Record). (r.id == id) && not r.dead) records = subst (λ xs. 0 < count_by (λ (r : Record). (r.id == id) && not r.dead) xs) (sym f.is) (count_at (λ (r : Record). (r.id == id) && not r.dead) f.front f.item f.back (and_from _ _ parts.0 (ap not e))) in
+    omega (
+      arith,
+      apart id,
+      count_apart (λ (r : Record). (r.id == id) && r.dead) (λ (r : Record). (r.id == id) && not r.dead) (λ (r : Record). r.id == id) records (λ r e. (and_parts _ _ e).0) (λ r e. (and_parts _ _ e).0)
+          (λ r e f. never_both r.dead (and_parts _ _ e).1 (and_parts _ _ f).1),
+    )) in
     subst (λ xs. 0 < count_by (dead_at t) xs) (sym f.is) (count_at (dead_at t) f.front f.item f.back (and_from _ _ is_dead parts.1))
 
 -- a tag of a listed record lies in a dead record's range
@@ -127,8 +131,8 @@ covered_is_dead left t records apart dead covers =
     let f = found_any (λ (r : Record). is_listed left r.id && in_range r.start r.length t) records covers in
     let parts = and_parts _ _ f.passes in
     dead_in_range t f.item.id records apart (listed_is_dead left records f.item.id dead parts.0)
-      (subst (λ xs. list_any (λ (r : Record). (r.id == f.item.id) && in_range r.start r.length t) xs ≡ true) (sym f.is)
-        (any_at (λ (r : Record). (r.id == f.item.id) && in_range r.start r.length t) f.front f.item f.back (and_from _ _ (eq-eqb f.item.id f.item.id refl) parts.1)))
+    (subst (λ xs. list_any (λ (r : Record). (r.id == f.item.id) && in_range r.start r.length t) xs ≡ true) (sym f.is)
+    (any_at (λ (r : Record). (r.id == f.item.id) && in_range r.start r.length t) f.front f.item f.back (and_from _ _ (eq-eqb f.item.id f.item.id refl) parts.1)))
 
 -- so does the tag that is read
 pub read_is_dead : (k : Shape) (left : List ℕ) (reader : Reader) (records : List Record) → Apart records → sweep_fits k (sweep.Reading left reader) records ≡ true → 0 < count_by (dead_at reader.tag) records

@@ -1,15 +1,17 @@
 -- Where no CPU has a hand, what is counted is what the live list holds.
-use Rattle.std.proofs.Common.{◌≡◌, ℕ, ◌+◌, ◌<◌, ◌≤◌, ◌==◌, List, [], ◌∷◌, ◌++◌, sum_by, count_by, flat_map, refl, sym, ap, arith, cond, Option, Some, None}
+use Rattle.std.proofs.Common.{◌≡◌, ℕ, ◌≤◌, ◌==◌, List, [], ◌∷◌, sum_by, count_by, refl, arith, cond, true, ◌∙◌, Option, Some, None}
+use Rattle.std.specs.List.{list_all}
+use Rattle.std.proofs.lemmas.Bool.{and_from}
 use Rattle.std.proofs.lemmas.List.Sums.{sum_by-cons, sum_by-append}
+use Rattle.std.proofs.lemmas.List.Folds.{list_all-append}
 use Rattle.tag_model.specs.declared.shape.Shape.{Shape}
-use Rattle.tag_model.specs.declared.state.CpuPart.{CpuPart}
 use Rattle.tag_model.specs.declared.state.Hand.{Hand}
 use Rattle.tag_model.specs.declared.state.Held.{Held}
 use Rattle.tag_model.specs.declared.state.Held.TheVariants as held
 use Rattle.tag_model.specs.declared.state.Kind.{Kind}
 use Rattle.tag_model.specs.declared.state.Part.{Part}
 use Rattle.tag_model.specs.declared.state.Part.TheVariants.{Cpu, Place, Modules, NextId}
-use Rattle.tag_model.specs.Laws.{Safe, hand_number, has_hand, live_pair, live_of}
+use Rattle.tag_model.specs.Laws.{Safe, hand_number, has_hand, is_held, live_pair, live_of}
 use Rattle.tag_model.specs.Reference.{hand_counts, held_counts, live_total}
 use Rattle.tag_model.specs.WordState.{word_of, counted, is_place_at}
 use Rattle.tag_model.specs.Wrap.{wrap}
@@ -52,3 +54,15 @@ live_once_by_place n (p ∷ ps) =
 
 pub live_once : (k : Shape) (ps : List Part) (n : ℕ) → Safe k ps → count_by (λ (entry : ℕ × Held). entry.0 == n) (live_of ps) ≤ 1
 live_once k ps n safe = omega (arith, live_once_by_place n ps, safe.each.places n)
+
+pair_held : (p : Part) → list_all (λ (entry : ℕ × Held). is_held entry.1) (live_pair p) ≡ true
+pair_held (Cpu c) = refl
+pair_held (Place n held.None) = refl
+pair_held (Place n held.Empty) = refl
+pair_held (Place n (held.Counted tag size)) = refl
+pair_held (Modules l) = refl
+pair_held (NextId id) = refl
+
+pub live_held : (ps : List Part) → list_all (λ (entry : ℕ × Held). is_held entry.1) (live_of ps) ≡ true
+live_held [] = refl
+live_held (p ∷ ps) = list_all-append (λ (entry : ℕ × Held). is_held entry.1) (live_pair p) (live_of ps) ∙ and_from _ _ (pair_held p) (live_held ps)

@@ -1,22 +1,21 @@
 -- Where a pass begins, goes on to the next record, and ends: the sweep law holds of the sweep that is then reached.
-use Rattle.std.proofs.Common.{◌≡◌, ℕ, ◌+◌, ◌<◌, ◌≤◌, ◌==◌, ◌&&◌, ◌||◌, ◌⊎◌, nat_lt, nat_le, List, [], ◌∷◌, ◌++◌, sum_by, count_by, find, refl, sym, ap, ◌∙◌, subst, inl, inr, arith, Bool, true, false, not, cond, Option, Some, None, eqb-true, ltb-true, leb-true, eq-eqb, le-leb, lt-ltb, if◌then◌else◌}
+use Rattle.std.proofs.Common.{◌≡◌, ℕ, ◌+◌, ◌<◌, ◌≤◌, ◌==◌, ◌&&◌, ◌||◌, ◌⊎◌, nat_lt, nat_le, List, [], ◌∷◌, sum_by, find, refl, sym, subst, inl, inr, arith, Bool, true, Option, Some, None, ltb-true, eq-eqb, le-leb, lt-ltb}
 use Rattle.std.specs.List.{list_any, list_all}
-use Rattle.std.proofs.lemmas.Bool.{and_parts, and_from, or_cases, or_left, or_right, false≢true}
+use Rattle.std.proofs.lemmas.Bool.{and_parts, and_from, or_cases, or_left, false≢true}
 use Rattle.tag_model.specs.declared.shape.Shape.{Shape}
 use Rattle.tag_model.specs.declared.state.Kind.{Kind}
 use Rattle.tag_model.specs.declared.state.Kind.TheVariants.{Bytes, Calls}
 use Rattle.tag_model.specs.declared.state.Part.{Part}
-use Rattle.tag_model.specs.declared.state.Reader.{Reader}
 use Rattle.tag_model.specs.declared.state.Record.{Record}
 use Rattle.tag_model.specs.declared.state.Sweep.{Sweep}
 use Rattle.tag_model.specs.declared.state.Sweep.TheVariants as sweep
 use Rattle.tag_model.specs.Laws.{is_listed, covers_listed, covers_read, is_calls, has_cleared, are_dead, rises_from, sweep_fits}
-use Rattle.tag_model.specs.StepRules.{start_of, end_of, reads_from, begins_pass, after_pass, goes_on, passes_record}
+use Rattle.tag_model.specs.StepRules.{start_of, reads_from, begins_pass, after_pass, goes_on, passes_record}
 use Rattle.tag_model.specs.Wrap.{wrap}
 use Rattle.tag_model.specs.WordState.{word_from, counted, in_range, record_fits}
-use Rattle.tag_model.proofs.Found.{Found, found, found_any, all_at, any_at}
-use Rattle.tag_model.proofs.Ids.{rises_above, rises_cons, listed_cons, find_none, find_some, range_of, RangeOf}
-use Rattle.tag_model.proofs.Lists.{Apart, in_range_means, in_range_from, listed_is_dead, RecordFits, record_fits_means}
+use Rattle.tag_model.proofs.Found.{Found, found_any, all_at, any_at}
+use Rattle.tag_model.proofs.Ids.{rises_above, rises_cons, listed_cons, find_none, find_some, range_of}
+use Rattle.tag_model.proofs.Lists.{Apart, in_range_means, in_range_from, listed_is_dead, record_fits_means}
 
 -- what is read of a tag and still to read is at least what is counted under it
 abbrev pub ReadsEnough : Sweep → List Part → Type 0
@@ -75,12 +74,13 @@ reads_from_ok k pass left records id ps base rises dead listed cleared =
     let fit = record_fits_means k f.item (all_at (record_fits k) f.front f.item f.back (subst (λ xs. list_all (record_fits k) xs ≡ true) f.is base.fit)) in
     let first : in_range f.item.start f.item.length (start_of id records) ≡ true = in_range_from f.item.start f.item.length (start_of id records) (omega (arith, range.start)) (omega (arith, range.start, fit.some)) in
     let there : list_any (λ (r : Record). (r.id == id) && in_range r.start r.length (start_of id records)) records ≡ true =
-          subst (λ xs. list_any (λ (r : Record). (r.id == id) && in_range r.start r.length (start_of id records)) xs ≡ true) (sym f.is)
-            (any_at (λ (r : Record). (r.id == id) && in_range r.start r.length (start_of id records)) f.front f.item f.back (and_from _ _ f.passes first)) in
+    subst (λ xs. list_any (λ (r : Record). (r.id == id) && in_range r.start r.length (start_of id records)) xs ≡ true) (sym f.is)
+    (any_at (λ (r : Record). (r.id == id) && in_range r.start r.length (start_of id records)) f.front f.item f.back (and_from _ _ f.passes first)) in
     record {
       fits = and_from _ _ (and_from _ _ (and_from _ _ (and_from _ _ rises dead) listed) there) (lt-ltb 0 k.cpus base.some_cpu);
       reading = base.fresh pass (start_of id records);
-      cleared = cleared }
+      cleared = cleared;
+    }
 
 -- what such a pass has read lies in earlier records
 pub read_before : (pass : Kind) (left : List ℕ) (records : List Record) (id t : ℕ) → Apart records
@@ -114,6 +114,7 @@ begins_pass_ok k pass (id ∷ left) records ps base rises dead bytes =
         let listed = (and_parts (is_listed (id ∷ left) f.item.id) (in_range f.item.start f.item.length t) parts.0).0 in
         let below = ltb-true f.item.id id parts.1 in
         elim (listed_cons id left f.item.id listed) [ inl here ↦ omega (arith, here, below) | inr there ↦ omega (arith, below, rises_above id left f.item.id (rises_cons 0 id left rises).1 there) ]
+
     cleared : (pass : Kind) → (is_calls pass ≡ true → (t : ℕ) → covers_listed (id ∷ left) t records ≡ true → sum_by (counted Bytes t) ps ≡ 0)
         → (kind : Kind) (t : ℕ) → has_cleared (reads_from pass (id ∷ left) records id) kind t records ≡ true → sum_by (counted kind t) ps ≡ 0
     cleared Bytes bytes Bytes t e = absurd (none_read Bytes t e)
@@ -145,16 +146,19 @@ passes_record_ok k pass left records id ps base rises dead upto bytes = go (find
   where
     within : (t : ℕ) (f : Found (λ (r : Record). is_listed left r.id && in_range r.start r.length t) records) → f.item.id ≤ id → sum_by (counted pass t) ps ≡ 0
     within t f below = upto t (subst (λ xs. covers_upto left id t xs ≡ true) (sym f.is) (any_at (λ (r : Record). is_listed left r.id && in_range r.start r.length t && nat_le r.id id) f.front f.item f.back (and_from _ _ f.passes (le-leb f.item.id id below))))
+
     all_passed : find (nat_lt id) left ≡ None → (t : ℕ) → covers_listed left t records ≡ true → sum_by (counted pass t) ps ≡ 0
     all_passed none t e =
         let f = found_any (λ (r : Record). is_listed left r.id && in_range r.start r.length t) records e in
         within t f (find_none id left f.item.id none (and_parts (is_listed left f.item.id) (in_range f.item.start f.item.length t) f.passes).0)
+
     before : (next : ℕ) → find (nat_lt id) left ≡ Some next → (t : ℕ) → covers_read left (record { pass = pass; id = next; tag = start_of next records; cpu = 0; sum = 0 }) t records ≡ true → sum_by (counted pass t) ps ≡ 0
     before next some t e =
         let f = read_before pass left records next t base.apart e in
         let parts = and_parts (is_listed left f.item.id && in_range f.item.start f.item.length t) (nat_lt f.item.id next) f.passes in
         let listed = (and_parts (is_listed left f.item.id) (in_range f.item.start f.item.length t) parts.0).0 in
         within t (record { front = f.front; item = f.item; back = f.back; is = f.is; passes = parts.0 }) ((find_some 0 id left next rises some).1 f.item.id listed (ltb-true f.item.id next parts.1))
+
     cleared : (pass : Kind) (next : ℕ) → ((t : ℕ) → covers_read left (record { pass = pass; id = next; tag = start_of next records; cpu = 0; sum = 0 }) t records ≡ true → sum_by (counted pass t) ps ≡ 0)
         → (is_calls pass ≡ true → (t : ℕ) → covers_listed left t records ≡ true → sum_by (counted Bytes t) ps ≡ 0)
         → (kind : Kind) (t : ℕ) → has_cleared (reads_from pass left records next) kind t records ≡ true → sum_by (counted kind t) ps ≡ 0
@@ -162,6 +166,7 @@ passes_record_ok k pass left records id ps base rises dead upto bytes = go (find
     cleared Bytes next read bytes Calls t e = absurd (false≢true e)
     cleared Calls next read bytes Bytes t e = bytes refl t e
     cleared Calls next read bytes Calls t e = read t e
+
     go : (next : Option ℕ) → find (nat_lt id) left ≡ next → SweepOk k (goes_on next pass left records) records ps
     go None e = after_pass_ok k pass left records ps base rises dead (all_passed e) bytes
     go (Some next) e = reads_from_ok k pass left records next ps base rises dead (find_some 0 id left next rises e).0 (cleared pass next (before next e) bytes)

@@ -1,11 +1,10 @@
 -- Lists of records where one changes, joins or goes: what counts and tests over them then say.
-use Rattle.std.proofs.Common.{◌≡◌, ℕ, ◌+◌, ◌<◌, ◌≤◌, ◌==◌, ◌&&◌, ◌||◌, ◌⊎◌, nat_lt, nat_le, List, [], ◌∷◌, ◌++◌, map, sum_by, count_by, filter, refl, sym, ap, ◌∙◌, subst, inl, inr, arith, Bool, true, false, not, cond, eqb-true, ltb-true, eq-eqb, lt-ltb, le-ltb, if◌then◌else◌}
+use Rattle.std.proofs.Common.{◌≡◌, ℕ, ◌<◌, ◌≤◌, ◌==◌, ◌&&◌, ◌||◌, ◌⊎◌, nat_lt, List, [], ◌∷◌, ◌++◌, map, sum_by, count_by, filter, refl, sym, ap, ◌∙◌, subst, inl, inr, arith, Bool, true, false, cond, eq-eqb, lt-ltb, if◌then◌else◌}
 use Rattle.std.specs.List.{list_any, list_all}
-use Rattle.std.proofs.lemmas.Bool.{and_parts, and_from, or_cases, or_left, or_right, false≢true, cases_lt}
+use Rattle.std.proofs.lemmas.Bool.{and_parts, and_from, or_left, or_right, false≢true, cases_lt}
 use Rattle.std.proofs.lemmas.List.Sums.{sum_by-cons, sum_by-le-sum_by}
 use Rattle.std.proofs.lemmas.List.Folds.{list_any-append, list_all-append}
 use Rattle.tag_model.specs.declared.shape.Shape.{Shape}
-use Rattle.tag_model.specs.declared.state.CpuPart.{CpuPart}
 use Rattle.tag_model.specs.declared.state.Kind.{Kind}
 use Rattle.tag_model.specs.declared.state.Kind.TheVariants.{Bytes, Calls}
 use Rattle.tag_model.specs.declared.state.Part.{Part}
@@ -15,14 +14,14 @@ use Rattle.tag_model.specs.declared.state.Record.{Record}
 use Rattle.tag_model.specs.declared.state.Run.{Run}
 use Rattle.tag_model.specs.declared.state.Sweep.{Sweep}
 use Rattle.tag_model.specs.declared.state.Sweep.TheVariants as sweep
-use Rattle.tag_model.specs.Laws.{OneOfEach, same_run, is_listed, covers_listed, covers_read, is_calls, has_cleared, are_dead, rises_from, ids_of, sweep_fits}
+use Rattle.tag_model.specs.Laws.{OneOfEach, same_run, is_listed, covers_listed, covers_read, is_calls, has_cleared, are_dead, rises_from, ids_of}
 use Rattle.tag_model.specs.StepRules.{Becomes, dead_ids}
-use Rattle.tag_model.specs.WordState.{in_range, runs_with, is_cpu, is_place, is_place_at, is_list, is_pass, next_id}
-use Rattle.tag_model.proofs.Found.{Found, found, found_any, sum_at, any_at, all_at, count_at, count_more}
+use Rattle.tag_model.specs.WordState.{in_range, runs_with, is_cpu, is_place, is_place_at, is_list, is_pass}
+use Rattle.tag_model.proofs.Found.{found, sum_at, any_at, count_at, count_more}
 use Rattle.tag_model.proofs.Ids.{rises_cons, rises_lower}
 use Rattle.tag_model.proofs.Parts.{becomes_same}
-use Rattle.tag_model.proofs.Passes.{SweepOk, ReadsEnough}
-use Rattle.tag_model.proofs.ScanRow.{ReadingFits, reading_fits, reading_fits_from}
+use Rattle.tag_model.proofs.Passes.{SweepOk}
+use Rattle.tag_model.proofs.ScanRow.{reading_fits, reading_fits_from}
 use Rattle.tag_model.proofs.Swept.{same_run_refl}
 
 -- ---- parts that keep the number of each kind
@@ -40,7 +39,8 @@ each_after k v w ps qs s b e = record {
   list = omega (arith, becomes_same is_list v w ps qs b s.list, e.list);
   pass = omega (arith, becomes_same is_pass v w ps qs b s.pass, e.pass);
   places = λ n. omega (arith, becomes_same (is_place_at n) v w ps qs b (s.places n), e.places n);
-  few_places = omega (arith, becomes_same is_place v w ps qs b s.few_places, e.few_places) }
+  few_places = omega (arith, becomes_same is_place v w ps qs b s.few_places, e.few_places);
+}
 
 -- ---- one element changes
 
@@ -117,18 +117,20 @@ sweep_moves k (sweep.Done left) records after ps m ok =
     record {
       fits = and_from _ _ both.0 (all_weaker_listed (λ id. list_any (λ (r : Record). (r.id == id) && r.dead) records) (λ id. list_any (λ (r : Record). (r.id == id) && r.dead) after) left moves.dead both.1);
       reading = tt;
-      cleared = λ kind t e. ok.cleared kind t (moves.covers t e) }
+      cleared = λ kind t e. ok.cleared kind t (moves.covers t e);
+    }
 sweep_moves k (sweep.Reading left reader) records after ps m ok =
     let fit = reading_fits k left reader records ok.fits in
     let moves = m left fit.rises fit.dead in
     let there : list_any (λ (x : Record). (x.id == reader.id) && in_range x.start x.length reader.tag) records ≡ true =
-          subst (λ xs. list_any (λ (x : Record). (x.id == reader.id) && in_range x.start x.length reader.tag) xs ≡ true) (sym fit.at.is) (any_at (λ (x : Record). (x.id == reader.id) && in_range x.start x.length reader.tag) fit.at.front fit.at.item fit.at.back fit.at.passes) in
+    subst (λ xs. list_any (λ (x : Record). (x.id == reader.id) && in_range x.start x.length reader.tag) xs ≡ true) (sym fit.at.is) (any_at (λ (x : Record). (x.id == reader.id) && in_range x.start x.length reader.tag) fit.at.front fit.at.item fit.at.back fit.at.passes) in
     record {
       fits = reading_fits_from k left reader after fit.rises
           (all_weaker_listed (λ id. list_any (λ (r : Record). (r.id == id) && r.dead) records) (λ id. list_any (λ (r : Record). (r.id == id) && r.dead) after) left moves.dead fit.dead)
           fit.listed (moves.ranged reader.id reader.tag fit.listed there) fit.cpu;
       reading = ok.reading;
-      cleared = λ kind t e. ok.cleared kind t (cleared_moves (sweep.Reading left reader) left records after moves.covers moves.reads reader kind t e) }
+      cleared = λ kind t e. ok.cleared kind t (cleared_moves (sweep.Reading left reader) left records after moves.covers moves.reads reader kind t e);
+    }
 
 -- the users of a record may change
 pub moves_users : (left : List ℕ) (front : List Record) (r : Record) (back : List Record) (users : ℕ) → SweepMoves left (front ++ r ∷ back) (front ++ record r { users = users } ∷ back)
@@ -138,7 +140,8 @@ moves_users left front r back users =
       dead = λ id listed e. any_swap (λ (x : Record). (x.id == id) && x.dead) front r s back refl ∙ e;
       ranged = λ id t listed e. any_swap (λ (x : Record). (x.id == id) && in_range x.start x.length t) front r s back refl ∙ e;
       covers = λ t e. sym (any_swap (λ (x : Record). is_listed left x.id && in_range x.start x.length t) front r s back refl) ∙ e;
-      reads = λ reader t e. sym (any_swap (λ (x : Record). is_listed left x.id && in_range x.start x.length t && (nat_lt x.id reader.id || ((x.id == reader.id) && nat_lt t reader.tag))) front r s back refl) ∙ e }
+      reads = λ reader t e. sym (any_swap (λ (x : Record). is_listed left x.id && in_range x.start x.length t && (nat_lt x.id reader.id || ((x.id == reader.id) && nat_lt t reader.tag))) front r s back refl) ∙ e;
+    }
 
 -- ---- runs
 

@@ -1,31 +1,29 @@
 -- A tag that a CPU may count anew under lies in no range that is swept.
-use Rattle.std.proofs.Common.{◌≡◌, ℕ, ◌+◌, ◌<◌, ◌≤◌, ◌==◌, ◌&&◌, ◌||◌, ◌⊎◌, nat_lt, nat_le, List, [], ◌∷◌, sum_by, count_by, refl, sym, ap, subst, inl, inr, arith, Bool, true, false, not, IsTrue, eqb, eqb-true, ltb-true, leb-true, eq-eqb, Option, Some, None, if◌then◌else◌, ◌∙◌, ⊎_elim}
+use Rattle.std.proofs.Common.{◌≡◌, ℕ, ◌<◌, ◌≤◌, ◌==◌, ◌&&◌, ◌⊎◌, nat_lt, List, ◌∷◌, sum_by, count_by, refl, sym, subst, inl, inr, arith, Bool, true, false, not, eqb-true, ltb-true, eq-eqb, if◌then◌else◌, ◌∙◌}
 use Rattle.std.specs.List.{list_any, list_all}
-use Rattle.std.proofs.lemmas.Bool.{and_parts, and_from, false≢true, not-true, or_cases}
+use Rattle.std.proofs.lemmas.Bool.{and_parts, and_from}
 use Rattle.std.proofs.lemmas.List.Sums.{sum_by-cons}
 use Rattle.tag_model.specs.declared.shape.Shape.{Shape}
-use Rattle.tag_model.specs.declared.state.Hand.{Hand}
 use Rattle.tag_model.specs.declared.state.Kind.{Kind}
 use Rattle.tag_model.specs.declared.state.Kind.TheVariants.{Bytes, Calls}
 use Rattle.tag_model.specs.declared.state.CpuPart.{CpuPart}
 use Rattle.tag_model.specs.declared.state.ListPart.{ListPart}
 use Rattle.tag_model.specs.declared.state.Part.{Part}
-use Rattle.tag_model.specs.declared.state.Part.TheVariants.{Cpu, Place, Modules, NextId}
+use Rattle.tag_model.specs.declared.state.Part.TheVariants.{Cpu, Modules}
 use Rattle.tag_model.specs.declared.state.Reader.{Reader}
 use Rattle.tag_model.specs.declared.state.Record.{Record}
 use Rattle.tag_model.specs.declared.state.Run.{Run}
 use Rattle.tag_model.specs.declared.state.Sweep.{Sweep}
 use Rattle.tag_model.specs.declared.state.Sweep.TheVariants as sweep
 use Rattle.tag_model.specs.declared.state.Tag.{Tag}
-use Rattle.tag_model.specs.Laws.{OneOfEach, CoverLaw, SweepLaw, IsCovered, is_loaded_as, same_run, is_listed, covers_listed, is_calls, has_cleared, are_dead, rises_from, ids_of, sweep_fits, list_fits, cleared, is_reading, of_reader, reader_number, same_kind, tag_read}
-use Rattle.tag_model.specs.Reference.{same_tag, hand_counts_of, hand_fits}
+use Rattle.tag_model.specs.Laws.{CoverLaw, IsCovered, is_loaded_as, same_run, is_listed, covers_listed, is_calls, has_cleared, are_dead, rises_from, ids_of, sweep_fits, list_fits, cleared, is_reading, of_reader, reader_number, same_kind, tag_read}
 use Rattle.tag_model.specs.Shape.{IsChecked}
 use Rattle.tag_model.specs.StepRules.{Becomes, may_begin}
-use Rattle.tag_model.specs.WordState.{one_if, Every, in_range, records_with, runs_with, record_fits, part_fits, cpu_fits, hand_may_open, counted_of}
-use Rattle.tag_model.proofs.Found.{Found, found, found_any, none_fails, all_at, any_at, count_at}
-use Rattle.tag_model.proofs.Parts.{TheList, the_list, IsOfList}
+use Rattle.tag_model.specs.WordState.{one_if, Every, in_range, records_with, runs_with, record_fits, part_fits}
+use Rattle.tag_model.proofs.Found.{found, found_any, none_fails, all_at, any_at, count_at}
+use Rattle.tag_model.proofs.Parts.{TheList}
 use Rattle.tag_model.proofs.Alike.{of_records, of_reading, of_cleared, of_fits, of_field}
-use Rattle.tag_model.proofs.Lists.{dead_at, loaded_at, in_range_means, in_range_from, apart_counts, dead_above_kernel, Apart, ids_left, left_fits, cleared_is_listed, covered_is_dead, read_is_dead, records_more, RecordFits, record_fits_means}
+use Rattle.tag_model.proofs.Lists.{dead_at, loaded_at, in_range_means, in_range_from, apart_counts, dead_above_kernel, Apart, ids_left, left_fits, cleared_is_listed, covered_is_dead, read_is_dead, records_more, record_fits_means}
 
 -- the part stands among the parts
 abbrev pub Holds : List Part → Part → Type 0
@@ -54,7 +52,8 @@ list_laws k ps t fits cover list =
       rise = both.0;
       apart = λ id. omega (arith, t.only (records_with (λ r. r.id == id)) (of_records _), cover.ids_apart id);
       ranges = λ u. omega (arith, t.only (records_with (λ r. in_range r.start r.length u)) (of_records _), cover.ranges_apart u);
-      sweep = both.1 }
+      sweep = both.1;
+    }
 
 -- ---- what is swept is dead
 
@@ -66,7 +65,7 @@ reader_is_dead k kind (sweep.Reading left reader) records apart fits h = read_is
 pub reading_is_dead : (k : Shape) (ps : List Part) (t : TheList ps) → ListLaws k t.l → (kind : Kind) → 0 < sum_by (is_reading kind) ps → 0 < count_by (dead_at (tag_read ps)) t.l.records
 reading_is_dead k ps t laws kind h =
     subst (λ u. 0 < count_by (dead_at u) t.l.records) (sym (t.only (of_reader (λ r. r.tag)) (of_field _)))
-      (reader_is_dead k kind t.l.sweep t.l.records laws.apart laws.sweep (omega (arith, t.only (is_reading kind) (of_reading kind))))
+    (reader_is_dead k kind t.l.sweep t.l.records laws.apart laws.sweep (omega (arith, t.only (is_reading kind) (of_reading kind))))
 
 pub one_if_true : (b : Bool) → 0 < one_if b → b ≡ true
 one_if_true true h = refl
@@ -75,7 +74,7 @@ one_if_true false h = absurd (omega arith)
 pub cleared_is_dead : (k : Shape) (ps : List Part) (t : TheList ps) → ListLaws k t.l → (kind : Kind) (u : ℕ) → 0 < sum_by (cleared kind u) ps → 0 < count_by (dead_at u) t.l.records
 cleared_is_dead k ps t laws kind u h =
     covered_is_dead (ids_left t.l.sweep) u t.l.records laws.apart (left_fits k t.l.sweep t.l.records laws.sweep).1
-      (cleared_is_listed t.l.sweep kind u t.l.records (one_if_true (has_cleared t.l.sweep kind u t.l.records) (omega (arith, t.only (cleared kind u) (of_cleared kind u)))))
+    (cleared_is_listed t.l.sweep kind u t.l.records (one_if_true (has_cleared t.l.sweep kind u t.l.records) (omega (arith, t.only (cleared kind u) (of_cleared kind u)))))
 
 -- ---- while calls are read, no bytes are counted under the tag that is read
 
@@ -90,8 +89,8 @@ reader_is_listed k left reader records e =
     let f = found_any (λ (r : Record). (r.id == reader.id) && in_range r.start r.length reader.tag) records back.1 in
     let here = and_parts (f.item.id == reader.id) (in_range f.item.start f.item.length reader.tag) f.passes in
     subst (λ xs. covers_listed left reader.tag xs ≡ true) (sym f.is)
-      (any_at (λ (r : Record). is_listed left r.id && in_range r.start r.length reader.tag) f.front f.item f.back
-        (and_from _ _ (subst (λ id. is_listed left id ≡ true) (sym (eqb-true f.item.id reader.id here.0)) listed) here.1))
+    (any_at (λ (r : Record). is_listed left r.id && in_range r.start r.length reader.tag) f.front f.item f.back
+    (and_from _ _ (subst (λ id. is_listed left id ≡ true) (sym (eqb-true f.item.id reader.id here.0)) listed) here.1))
 
 reader_has_cleared : (k : Shape) (s : Sweep) (records : List Record) → sweep_fits k s records ≡ true → 0 < reader_number (λ r. one_if (same_kind Calls r.pass)) s → has_cleared s Bytes (reader_number (λ r. r.tag) s) records ≡ true
 reader_has_cleared k sweep.None records e h = absurd (omega arith)
@@ -102,7 +101,7 @@ pub reading_calls_cleared : (k : Shape) (ps : List Part) (t : TheList ps) → Li
 reading_calls_cleared k ps t laws h =
     let same : tag_read ps ≡ reader_number (λ r. r.tag) t.l.sweep = t.only (of_reader (λ r. r.tag)) (of_field _) in
     let is : has_cleared t.l.sweep Bytes (tag_read ps) t.l.records ≡ true =
-          subst (λ u. has_cleared t.l.sweep Bytes u t.l.records ≡ true) (sym same) (reader_has_cleared k t.l.sweep t.l.records laws.sweep (omega (arith, t.only (is_reading Calls) (of_reading Calls)))) in
+    subst (λ u. has_cleared t.l.sweep Bytes u t.l.records ≡ true) (sym same) (reader_has_cleared k t.l.sweep t.l.records laws.sweep (omega (arith, t.only (is_reading Calls) (of_reading Calls)))) in
     let one : one_if (has_cleared t.l.sweep Bytes (tag_read ps) t.l.records) ≡ 1 = rw is refl in
     omega (arith, t.only (cleared Bytes (tag_read ps)) (of_cleared Bytes (tag_read ps)))
 
@@ -144,23 +143,23 @@ run_on_loaded k c ps tag stands cover e =
     let runs : 0 < count_by (same_run f.item) c.runs = subst (λ xs. 0 < count_by (same_run f.item) xs) (sym f.is) (count_at (same_run f.item) f.front f.item f.back (same_run_refl f.item)) in
     let loaded = cover.runs f.item (omega (arith, stands (runs_with (same_run f.item)))) in
     let more = records_more (is_loaded_as f.item) (λ r. ((r.id == tag.module) && in_range r.start r.length tag.number) && not r.dead) ps
-          (λ r h. let like = loaded_as_means f.item r h in
-              let within = in_range_means f.item.start f.item.length tag.number here.1 in
-              and_from _ _ (and_from _ _ (eq-eqb r.id tag.module (like.id ∙ eqb-true f.item.id tag.module here.0))
-                (in_range_from r.start r.length tag.number (omega (arith, like.start, within)) (omega (arith, like.start, like.length, within)))) like.loaded) in
+    (λ r h. let like = loaded_as_means f.item r h in
+    let within = in_range_means f.item.start f.item.length tag.number here.1 in
+    and_from _ _ (and_from _ _ (eq-eqb r.id tag.module (like.id ∙ eqb-true f.item.id tag.module here.0))
+    (in_range_from r.start r.length tag.number (omega (arith, like.start, within)) (omega (arith, like.start, like.length, within)))) like.loaded) in
     omega arith
 
 pub live_from_run : (k : Shape) (ps : List Part) (tag : Tag) → 0 < sum_by (records_with (λ r. ((r.id == tag.module) && in_range r.start r.length tag.number) && not r.dead)) ps → IsLive k ps tag.number
 live_from_run k ps tag h =
     let more = records_more (λ r. ((r.id == tag.module) && in_range r.start r.length tag.number) && not r.dead) (loaded_at tag.number) ps
-          (λ r e. let both = and_parts ((r.id == tag.module) && in_range r.start r.length tag.number) (not r.dead) e in
-              and_from _ _ both.1 (and_parts (r.id == tag.module) (in_range r.start r.length tag.number) both.0).1) in
+    (λ r e. let both = and_parts ((r.id == tag.module) && in_range r.start r.length tag.number) (not r.dead) e in
+    and_from _ _ both.1 (and_parts (r.id == tag.module) (in_range r.start r.length tag.number) both.0).1) in
     inr (omega arith)
 
 pub covered_from_run : (k : Shape) (ps : List Part) (tag : Tag) → 0 < sum_by (records_with (λ r. ((r.id == tag.module) && in_range r.start r.length tag.number) && not r.dead)) ps → IsCovered k ps tag
 covered_from_run k ps tag h =
     let more = records_more (λ r. ((r.id == tag.module) && in_range r.start r.length tag.number) && not r.dead) (λ r. (r.id == tag.module) && in_range r.start r.length tag.number) ps
-          (λ r e. (and_parts ((r.id == tag.module) && in_range r.start r.length tag.number) (not r.dead) e).0) in
+    (λ r e. (and_parts ((r.id == tag.module) && in_range r.start r.length tag.number) (not r.dead) e).0) in
     inr (omega arith)
 
 -- a CPU may begin an allocation under a live and covered tag

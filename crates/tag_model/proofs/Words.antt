@@ -1,10 +1,9 @@
 -- A CPU's words, where one is raised or lowered.
-use Rattle.std.proofs.Common.{◌≡◌, ℕ, ◌+◌, ◌-◌, ◌*◌, ◌%◌, ◌^◌, ◌<◌, ◌≤◌, ◌≢◌, List, length, refl, sym, arith, subst, ⊎_elim, inl, inr, ◌⊎◌, length-set, slice_index, slice_set}
+use Rattle.std.proofs.Common.{◌≡◌, ℕ, ◌+◌, ◌*◌, ◌<◌, ◌≤◌, ◌≢◌, List, length, arith, subst, inl, inr, slice_index}
 use Rattle.std.proofs.lemmas.Bool.{cases_eq}
 use Rattle.std.proofs.lemmas.List.{get_or-set_same, get_or-set_other}
 use Rattle.tag_model.specs.declared.state.Kind.{Kind}
 use Rattle.tag_model.specs.declared.state.Kind.TheVariants.{Bytes, Calls}
-use Rattle.tag_model.specs.Reference.{amount}
 use Rattle.tag_model.specs.Wrap.{wrap, wrap_minus}
 use Rattle.tag_model.specs.WordState.{word_place}
 use Rattle.tag_model.specs.StepRules.{raised, lowered}

@@ -1,5 +1,5 @@
 -- The laws that every state of the machine meets, between any two steps of any CPUs.
-use Rattle.std.specs.Prelude.{◌≡◌, ℕ, ◌+◌, ◌<◌, ◌≤◌, ◌==◌, ◌&&◌, ◌||◌, ◌⊎◌, not, nat_lt, nat_le, Bool, true, false, IsTrue, if◌then◌else◌, Option, Some, None, List, [], ◌∷◌, length, count_by, sum_by}
+use Rattle.std.specs.Prelude.{◌≡◌, ℕ, ◌+◌, ◌*◌, ◌<◌, ◌≤◌, ◌==◌, ◌&&◌, ◌||◌, ◌⊎◌, not, nat_lt, nat_le, Bool, true, false, if◌then◌else◌, Option, Some, None, List, [], ◌∷◌, length, count_by, sum_by}
 use Rattle.std.specs.List.{list_any, list_all, flat_map}
 use Rattle.tag_model.specs.declared.shape.Shape.{Shape}
 use Rattle.tag_model.specs.declared.state.Tag.{Tag}
@@ -14,8 +14,6 @@ use Rattle.tag_model.specs.declared.state.Record.{Record}
 use Rattle.tag_model.specs.declared.state.Reader.{Reader}
 use Rattle.tag_model.specs.declared.state.Sweep.{Sweep}
 use Rattle.tag_model.specs.declared.state.Sweep.TheVariants as sweep
-use Rattle.tag_model.specs.declared.state.CpuPart.{CpuPart}
-use Rattle.tag_model.specs.declared.state.ListPart.{ListPart}
 use Rattle.tag_model.specs.declared.state.Part.{Part}
 use Rattle.tag_model.specs.declared.state.Part.TheVariants.{Cpu, Place, Modules, NextId}
 use Rattle.tag_model.specs.declared.limits.TheConstants.{MAX_PLACES}
@@ -210,3 +208,18 @@ live_pair (NextId id) = []
 -- the live list of a state
 abbrev pub live_of : List Part → List (ℕ × Held)
 live_of parts = flat_map live_pair parts
+
+-- ---- a fresh state
+
+abbrev pub is_idle : Sweep → Bool
+is_idle sweep.None = true
+is_idle (sweep.Done left) = false
+is_idle (sweep.Reading left reader) = false
+
+-- words of 0, no hand, run or note; no place that holds something; no record and no sweep
+abbrev pub is_fresh : Shape → Part → Bool
+is_fresh k (Cpu c) =
+    nat_lt c.number k.cpus && (length c.words == 2 * k.tags) && list_all (λ w. w == 0) c.words && (hand_number c.hand == 0) && (length c.runs == 0) && (length c.notes == 0)
+is_fresh k (Place number held) = not (is_held held)
+is_fresh k (Modules l) = (length l.records == 0) && (length l.away == 0) && is_idle l.sweep
+is_fresh k (NextId id) = nat_lt 0 id

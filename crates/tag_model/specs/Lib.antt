@@ -4,4 +4,5 @@ pub mod Reference
 pub mod WordState
 pub mod StepRules
 pub mod Laws
+pub mod Histories
 pub mod Moves

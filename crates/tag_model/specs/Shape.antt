@@ -1,4 +1,4 @@
-use Rattle.std.specs.Prelude.{◌≡◌, ◌<◌, ◌≤◌, Result, Ok, Err, if◌then◌else◌, ◌==◌, nat_lt, ◌||◌}
+use Rattle.std.specs.Prelude.{◌<◌, ◌≤◌, Result, Ok, Err, if◌then◌else◌, ◌==◌, nat_lt, ◌||◌}
 use Rattle.tag_model.specs.declared.shape.Shape.{Shape}
 use Rattle.tag_model.specs.declared.shape.ShapeError.{ShapeError}
 use Rattle.tag_model.specs.declared.shape.ShapeError.TheVariants.{NoCpu, TooManyCpus, NoKernelTag, TooManyTags, TooManyFrames, TooManyVectors}

@@ -1,15 +1,25 @@
 //! Each step of the step rules keeps all the laws. The functions do nothing: what they promise are laws of the
 //! definitions.
 
-ghost use Rattle.std.specs.List.{list_any};
+ghost use Rattle.std.specs.List.{list_all, list_any};
 ghost use Rattle.std.specs.Prelude.{ℕ, ◌≡◌, ◌<◌, ◌≤◌, ◌==◌, ◌&&◌, IsTrue, List, [], ◌∷◌, count_by, sum_by};
-ghost use Rattle.tag_model.specs.Laws.{Safe, SumLaw, has_hand, live_of};
+ghost use Rattle.tag_model.specs.Histories.{IsHistory, Leads, PassHistory, last_state, stops_at};
+ghost use Rattle.tag_model.specs.Laws.{OneOfEach, Safe, SumLaw, has_hand, is_fresh, is_held, live_of};
 ghost use Rattle.tag_model.specs.Reference.{live_total};
 ghost use Rattle.tag_model.specs.Shape.{IsChecked};
 ghost use Rattle.tag_model.specs.StepRules.{
-    AddsBytes, AddsCall, BaseMove, Becomes, BeginsAllocation, Releases, Steps, SubtractsBytes, SubtractsCall, WritesPlace,
+  AddsBytes,
+  AddsCall,
+  BaseMove,
+  Becomes,
+  BeginsAllocation,
+  Releases,
+  Steps,
+  SubtractsBytes,
+  SubtractsCall,
+  WritesPlace,
 };
-ghost use Rattle.tag_model.specs.WordState.{counted, counted_of, in_range, word_of};
+ghost use Rattle.tag_model.specs.WordState.{Every, counted, counted_of, in_range, word_of};
 ghost use Rattle.tag_model.specs.Wrap.{wrap};
 ghost use Rattle.tag_model.specs.declared.shape.Shape.{Shape};
 ghost use Rattle.tag_model.specs.declared.state.CpuPart.{CpuPart};
@@ -32,29 +42,27 @@ pub fn word_steps_keep_the_sums()
     ensures adds_call { (k : Shape) (hand : Hand) (c d : CpuPart) (old new : List Part) → IsChecked k → AddsCall hand c d → Becomes (Cpu c ∷ []) (Cpu d ∷ []) old new → Safe k old → SumLaw new }
     ensures subtracts_bytes { (k : Shape) (bytes : ℕ) (hand : Hand) (c d : CpuPart) (old new : List Part) → IsChecked k → SubtractsBytes bytes hand c d → Becomes (Cpu c ∷ []) (Cpu d ∷ []) old new → Safe k old → SumLaw new }
     ensures subtracts_call { (k : Shape) (hand : Hand) (c d : CpuPart) (old new : List Part) → IsChecked k → SubtractsCall hand c d → Becomes (Cpu c ∷ []) (Cpu d ∷ []) old new → Safe k old → SumLaw new }
-{
-}
+{}
 
 /// Where no CPU has a hand, what is counted is what the live list holds, and so each tag's words are its bytes and
-/// references now live, modulo 2^64. The live list has no place twice.
+/// references now live, modulo 2^64. The live list has no place twice, and none that
+/// holds nothing.
 pub fn quiet_sums_are_those_of_the_live_list()
     ensures counted { (parts : List Part) (kind : Kind) (t : ℕ) → sum_by has_hand parts ≡ 0 → sum_by (counted kind t) parts ≡ live_total kind t (live_of parts) }
     ensures words { (k : Shape) (parts : List Part) (kind : Kind) (t : ℕ) → Safe k parts → sum_by has_hand parts ≡ 0 → wrap (sum_by (word_of kind t) parts) ≡ wrap (live_total kind t (live_of parts)) }
+    ensures none_holds_nothing { (parts : List Part) → IsTrue (list_all (λ (entry : ℕ × Held). is_held entry.1) (live_of parts)) }
     ensures no_place_twice { (k : Shape) (parts : List Part) (n : ℕ) → Safe k parts → count_by (λ (entry : ℕ × Held). entry.0 == n) (live_of parts) ≤ 1 }
-{
-}
+{}
 
 /// A step of the step rules leads from a safe state to a safe state.
 pub fn steps_are_safe()
     ensures { (k : Shape) (old new : List Part) → IsChecked k → Steps k old new → Safe k old → Safe k new }
-{
-}
+{}
 
 /// A base move leads from a safe state to a safe state.
 pub fn base_moves_are_safe()
     ensures { (k : Shape) (v w old new : List Part) → BaseMove v w → Becomes v w old new → Safe k old → Safe k new }
-{
-}
+{}
 
 /// A release takes a dead record, and finds nothing counted under a tag of its module, by a place or a hand, nor under
 /// a tag number of its range.
@@ -62,5 +70,25 @@ pub fn a_release_finds_nothing()
     ensures dead { (k : Shape) (left : List ℕ) (id : ℕ) (from to : ListPart) (old new : List Part) → Releases left id from to → Becomes (Modules from ∷ []) (Modules to ∷ []) old new → Safe k old → IsTrue (list_any (λ (r : Record). (r.id == id) && r.dead) from.records) }
     ensures of_module { (k : Shape) (left : List ℕ) (id : ℕ) (from to : ListPart) (old new : List Part) → Releases left id from to → Becomes (Modules from ∷ []) (Modules to ∷ []) old new → Safe k old → (tag : Tag) → tag.module ≡ id → sum_by (counted_of Calls tag) old ≡ 0 }
     ensures in_its_range { (k : Shape) (left : List ℕ) (id : ℕ) (from to : ListPart) (old new : List Part) → Releases left id from to → Becomes (Modules from ∷ []) (Modules to ∷ []) old new → Safe k old → (kind : Kind) (t : ℕ) → 0 < count_by (λ (r : Record). (r.id == id) && in_range r.start r.length t) from.records → sum_by (counted kind t) old ≡ 0 }
-{
-}
+{}
+
+/// Each state of a history that starts in a safe state is safe.
+pub fn histories_are_safe()
+    ensures { (k : Shape) (first : List Part) (later : List (List Part)) → IsChecked k → Safe k first → IsHistory k first later → Safe k (last_state first later) }
+{}
+
+/// In a history that starts in a safe state and holds the step that began the pass, the sweep gets a stop at a tag and
+/// a kind only where something of that kind was counted under the tag right after that step.
+pub fn a_stop_was_counted_as_its_pass_began()
+    ensures { (k : Shape) (kind : Kind) (t : ℕ) (first begun last new : List Part) → IsChecked k → Safe k first → PassHistory k kind first begun last → Leads k last new → sum_by (stops_at kind t) last < sum_by (stops_at kind t) new → 0 < sum_by (counted kind t) begun }
+{}
+
+/// A state with one part of each kind, whose words are 0 and in which nothing is counted, loaded or swept, is safe.
+pub fn a_fresh_state_is_safe()
+    ensures { (k : Shape) (parts : List Part) → OneOfEach k parts → Every (is_fresh k) parts → Safe k parts }
+{}
+
+/// The laws read sums over the parts, so they ask neither for an order of the parts nor for who holds which.
+pub fn safe_in_any_order()
+    ensures { (k : Shape) (old new : List Part) → ((weight : Part → ℕ) → sum_by weight old ≡ sum_by weight new) → Safe k old → Safe k new }
+{}

@@ -1,4 +1,4 @@
-use Rattle.tag_model.proofs.Live.{live_counts, live_words, live_once}
+use Rattle.tag_model.proofs.Live.{live_counts, live_held, live_words, live_once}
 use Rattle.tag_model.proofs.rows.quiet_sums_are_those_of_the_live_list.Goals as goal
 
 pub returns-clause-counted : goal.returns-clause-counted
@@ -9,3 +9,6 @@ returns-clause-words c k parts kind t safe none = live_words k parts kind t safe
 
 pub returns-clause-no_place_twice : goal.returns-clause-no_place_twice
 returns-clause-no_place_twice c k parts n safe = live_once k parts n safe
+
+pub returns-clause-none_holds_nothing : goal.returns-clause-none_holds_nothing
+returns-clause-none_holds_nothing c parts = live_held parts
