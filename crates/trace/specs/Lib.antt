@@ -10,3 +10,4 @@ pub mod StepReading
 pub mod TraceWords
 pub mod TraceGrammar
 pub mod TraceReading
+pub mod Formed
