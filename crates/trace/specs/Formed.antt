@@ -1,7 +1,5 @@
 -- What holds of every trace that the reader gives.
-use Rattle.std.specs.Prelude.{ℕ, ◌<◌, ◌≤◌, ◌≢◌, Bool, true, false, List, [], ◌∷◌, length, map, All, count_by}
-use Rattle.std.specs.List.{flat_map}
-use Rattle.std.specs.List.Sorted.{IsStrictlyIncreasing}
+use Rattle.std.specs.Prelude.{ℕ, ◌<◌, ◌≤◌, ◌≢◌, List, length, All}
 use Rattle.tag_section.specs.Section.{Section, section_at}
 use Rattle.trace.specs.declared.traces.Item.{Item}
 use Rattle.trace.specs.declared.traces.Item.TheVariants as item
@@ -44,19 +42,7 @@ IsFormedItem cpus sections (item.Load line section) = IsModule sections section
 IsFormedItem cpus sections item.Print = Unit {0}
 IsFormedItem cpus sections item.Areas = Unit {0}
 
--- the numbers of an item's lines
-abbrev pub item_lines : Item → List ℕ
-item_lines (item.Round ops) = map (λ on. on.line) ops
-item_lines (item.Load line section) = line ∷ []
-item_lines item.Print = []
-item_lines item.Areas = []
-
-abbrev pub is_print : Item → Bool
-is_print (item.Round ops) = false
-is_print (item.Load line section) = false
-is_print item.Print = true
-is_print item.Areas = true
-
+-- A trace whose numbers lie in their ranges, whose sections have tags, and whose lines name what is there.
 pub record IsFormedTrace (trace : Trace) : Type 0 where
   pub cpus : (1 ≤ trace.cpus) × (trace.cpus ≤ 64)
   pub area : trace.area ≤ 896
@@ -66,6 +52,3 @@ pub record IsFormedTrace (trace : Trace) : Type 0 where
   pub tags : All (λ section. 0 < length section.tags) trace.sections
   pub items : All (IsFormedItem trace.cpus trace.sections) trace.body
   pub few_items : length trace.body ≤ 131072
-  pub lines : All (λ line. line ≤ 131072) (flat_map item_lines trace.body)
-  pub rising : IsStrictlyIncreasing (flat_map item_lines trace.body)
-  pub prints : count_by is_print trace.body ≤ 64
