@@ -40,11 +40,11 @@ kept_in : (low high k n : ℕ) → cond (nat_le low k && nat_le k high) (Some k)
 kept_in low high k n e =
     cond_both (nat_le low k && nat_le k high) (Some k) None (λ r. r ≡ Some n → (low ≤ n) × (n ≤ high))
     (λ t h.
-      let parts = both_true (nat_le low k) (nat_le k high) t in
-      let low' : low ≤ k = leb-true low k parts.0 in
-      let high' : k ≤ high = leb-true k high parts.1 in
-      let same : k ≡ n = cc in
-      (omega arith, omega arith))
+    let parts = both_true (nat_le low k) (nat_le k high) t in
+    let low' : low ≤ k = leb-true low k parts.0 in
+    let high' : k ≤ high = leb-true k high parts.1 in
+    let same : k ≡ n = cc in
+    (omega arith, omega arith))
     (λ _ h. let no : ⊥ = cc in absurd no)
     e
 
@@ -52,9 +52,9 @@ kept_below : (limit k n : ℕ) → cond (nat_lt k limit) (Some k) None ≡ Some 
 kept_below limit k n e =
     cond_both (nat_lt k limit) (Some k) None (λ r. r ≡ Some n → n < limit)
     (λ t h.
-      let low : k < limit = ltb-true k limit t in
-      let same : k ≡ n = cc in
-      omega arith)
+    let low : k < limit = ltb-true k limit t in
+    let same : k ≡ n = cc in
+    omega arith)
     (λ _ h. let no : ⊥ = cc in absurd no)
     e
 

@@ -47,10 +47,10 @@ section_form_ok sections x e =
 pub all_tagged : (sections : List Section) → AreTagged sections → IsLastTagged sections → All (λ section. 0 < length section.tags) sections
 all_tagged sections tagged last =
     All-from_get_or (λ section. 0 < length section.tags) sections no_section (λ k h.
-      elim (cases_lt (k + 1) (length sections)) [
-        inl more ↦ tagged k more
-        | inr end ↦ let is : length sections - 1 ≡ k = omega arith in subst (λ n. 0 < length (section_at sections n).tags) is last
-      ])
+    elim (cases_lt (k + 1) (length sections)) [
+      | inl more ↦ tagged k more
+      | inr end ↦ let is : length sections - 1 ≡ k = omega arith in subst (λ n. 0 < length (section_at sections n).tags) is last
+    ])
 
 sized_with : (which : Size) (head : Head) (n : ℕ) → (least which ≤ n) × (n ≤ most which) → ((with_size head which n).sections ≡ head.sections) × (AreSizes head → AreSizes (with_size head which n))
 sized_with size.Cpus head n h = (refl, λ old. record { cpus = h; area = old.area; frames = old.frames; vectors = old.vectors })
@@ -69,8 +69,7 @@ size_line_ok which line head new e =
     let c = need_ok (eqb (length (words_of line)) 2) code.Word value new b.1 in
     let n = bind_ok (number_word (least which) (most which) (word_at line 1)) (λ n. Ok (with_size head which n)) new c.1 in
     let same : with_size head which n.0 ≡ new = cc (n.2) in
-    let made = sized_with which head n.0 (number_word_ok (least which) (most which) (word_at line 1) n.0 n.1) in
-    (
+    let made = sized_with which head n.0 (number_word_ok (least which) (most which) (word_at line 1) n.0 n.1) in (
       eqb-true (length head.sections) 0 a.0,
       subst (λ (h : Head). h.sections ≡ head.sections) same made.0,
       subst (λ (h : Head). AreSizes head → AreSizes h) same made.1,
@@ -121,8 +120,7 @@ tag_line_ok in_body line head new e =
     let r = need_ok room code.Tags (Ok (with_tag head.sections t.0)) s.0 s.1 in
     let parts = both_true (ltb 0 (length head.sections)) (not in_body) a.0 in
     let sections_are : with_tag head.sections t.0 ≡ s.0 = cc (r.1) in
-    let head_is : ◌≡◌ {A = Head} (record head { sections = s.0 }) new = cc (s.2) in
-    (
+    let head_is : ◌≡◌ {A = Head} (record head { sections = s.0 }) new = cc (s.2) in (
       not_true in_body parts.1,
       ltb-true 0 (length head.sections) parts.0,
       (t.0, sym (ap (λ (x : List Section). record head { sections = x }) sections_are ∙ head_is)),
@@ -135,10 +133,10 @@ tagged_section sections name tagged last = λ k h.
     let longer : length (sections ++ new ∷ []) ≡ length sections + 1 = grind (arith, common_steps) in
     let old : section_at (sections ++ new ∷ []) k ≡ section_at sections k = get_or_append_left sections (new ∷ []) no_section k (omega arith) in
     let kept : 0 < length (section_at sections k).tags =
-        elim (cases_lt (k + 1) (length sections)) [
-          inl more ↦ tagged k more
-          | inr end ↦ let is : length sections - 1 ≡ k = omega arith in subst (λ n. 0 < length (section_at sections n).tags) is (last (omega arith))
-        ] in
+    elim (cases_lt (k + 1) (length sections)) [
+      | inl more ↦ tagged k more
+      | inr end ↦ let is : length sections - 1 ≡ k = omega arith in subst (λ n. 0 < length (section_at sections n).tags) is (last (omega arith))
+    ] in
     subst (λ (s : Section). 0 < length s.tags) (sym old) kept
 
 pub tagged_tag : (sections : List Section) (tag : TagParts) → 0 < length sections → AreTagged sections → AreTagged (with_tag sections tag)

@@ -1,5 +1,5 @@
 -- What the reader of traces gives is formed.
-use Rattle.std.proofs.Common.{◌≡◌, ℕ, suc, ◌+◌, ◌-◌, ◌<◌, ◌≤◌, Bool, true, false, cond, not, ◌&&◌, ◌||◌, eqb, ltb, leb, List, [], ◌∷◌, ◌++◌, length, drop, Option, Some, None, is_none, is_some, unwrap_or, Result, Ok, Err, IfSome, All, refl, sym, ap, ◌∙◌, subst, arith, inl, inr}
+use Rattle.std.proofs.Common.{◌≡◌, ℕ, suc, ◌+◌, ◌-◌, ◌<◌, ◌≤◌, Bool, true, false, cond, not, ◌&&◌, ◌||◌, eqb, ltb, leb, List, [], ◌∷◌, ◌++◌, length, drop, Option, Some, None, is_none, is_some, unwrap_or, Result, Ok, Err, IfSome, IfOk, All, refl, sym, ap, ◌∙◌, subst, arith, inl, inr}
 use Rattle.std.specs.Bool.{⊤}
 use Rattle.std.proofs.lemmas.Bool.{cond_both, false_from_ne_true, ltb-true, eqb-true, eq-eqb, leb-true, cases_lt}
 use Rattle.std.proofs.lemmas.List.{length-append}
@@ -11,6 +11,7 @@ use Rattle.text_form.specs.Lines.{is_form_byte, lines_of, tail_of}
 use Rattle.text_form.specs.Words.{words_of, word_at, has_empty_word}
 use Rattle.trace.specs.declared.code.Code.{Code}
 use Rattle.trace.specs.declared.code.Code.TheVariants as code
+use Rattle.trace.specs.declared.code.TextError.{TextError}
 use Rattle.trace.specs.declared.head.Head.{Head}
 use Rattle.trace.specs.declared.head.Size.{Size}
 use Rattle.trace.specs.declared.head.Size.TheVariants as size
@@ -24,7 +25,7 @@ use Rattle.trace.specs.declared.traces.Trace.{Trace}
 use Rattle.trace.specs.Formed.{IsModule, IsFormedOn, IsFormedItem, IsFormedTrace}
 use Rattle.trace.specs.Forms.{line_form, tail_form, is_skipped, first_line}
 use Rattle.trace.specs.Head.{empty_head, cpus_of, size_line, kernel_line, section_form, module_line, tag_line}
-use Rattle.trace.specs.Judging.{◌>>=◌, ◌>>◌, need, at}
+use Rattle.trace.specs.Judging.{◌>>=◌, ◌>>◌, need, at, Reads}
 use Rattle.trace.specs.Places.{module_word}
 use Rattle.trace.specs.TraceGrammar.{on_line}
 use Rattle.trace.specs.TraceReading.{empty_reading, with_head, closed, with_item, with_print, with_round, op_more, with_op, in_body, keyword_line, trace_line, trace_lines, trace_header, trace_from, trace_of}
@@ -225,9 +226,9 @@ line_kept number line r new old e =
     cond_both (is_skipped line) (Ok r) said (λ x. x ≡ Ok new → IsReading (number + 1) new)
     (λ _ h. let same : r ≡ new = cc in subst (IsReading (number + 1)) same (later number r old near))
     (λ _ h.
-      let w = need_ok (not (has_empty_word line)) code.Word words new h in
-      let k = bind_ok (trace_keyword (word_at line 0)) (λ k. keyword_line k number line r) new w.1 in
-      keyword_kept k.0 number line r new old near k.2)
+    let w = need_ok (not (has_empty_word line)) code.Word words new h in
+    let k = bind_ok (trace_keyword (word_at line 0)) (λ k. keyword_line k number line r) new w.1 in
+    keyword_kept k.0 number line r new old near k.2)
     f.2
 
 -- what the last line leaves
@@ -285,3 +286,7 @@ trace_is_formed text trace e =
     let c = bind_ok lines (λ r. Ok (trace_from b.0 r)) trace b.2 in
     let same : trace_from b.0 c.0 ≡ trace = cc (c.2) in
     subst IsFormedTrace same (from_whole b.0 c.0 (lines_kept (drop 1 (lines_of text)) 2 (tail_of text) empty_reading c.0 empty_is c.1))
+
+pub read_is_formed : (r : Result Trace TextError) (text : List ℕ) → Reads r (trace_of text) → IfOk r (λ trace. IsFormedTrace trace)
+read_is_formed (Ok trace) text h = trace_is_formed text trace h
+read_is_formed (Err e) text h = tt

@@ -8,5 +8,4 @@ ghost use Rattle.trace.specs.TraceReading.{trace_of};
 /// What a text spells is a formed trace.
 pub fn traces_are_formed()
     ensures { (text : List ℕ) (trace : Trace) → trace_of text ≡ Ok trace → IsFormedTrace trace }
-{
-}
+{}

@@ -23,8 +23,8 @@ pub use laws::traces_are_formed;
 pub use line_error::LineError;
 pub use step_reading::read_steps;
 pub use steps::{StepAct, StepActor, StepLine, StepLines, StepOp, Steps};
-pub use trace_reading::read_trace;
 pub use text_error::error_at;
+pub use trace_reading::read_trace;
 pub use traces::{Item, Items, OnOp, OnOps, Trace, TraceOp};
 
 #[cfg(test)]
