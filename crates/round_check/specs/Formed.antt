@@ -1,28 +1,30 @@
--- The traces that the round check is asked of. What the reader gives is among them.
-use Rattle.std.specs.Prelude.{ℕ, ◌<◌, ◌≤◌, List, length, All}
+-- What fits the tables of the round check.
+use Rattle.std.specs.Prelude.{◌<◌, ◌≤◌, All}
 use Rattle.trace.specs.declared.traces.Item.{Item}
 use Rattle.trace.specs.declared.traces.Item.TheVariants as item
 use Rattle.trace.specs.declared.traces.OnOp.{OnOp}
 use Rattle.trace.specs.declared.traces.TraceOp.{TraceOp}
 use Rattle.trace.specs.declared.traces.TraceOp.TheVariants as op
+use Rattle.trace.specs.Formed.{IsKey}
 
-abbrev pub IsKey : ℕ → Type 0
-IsKey key = (1 ≤ key) × (key ≤ 65535)
+abbrev pub FitsOp : TraceOp → Type 0
+FitsOp (op.Page key order) = IsKey key × (order ≤ 10)
+FitsOp (op.Kmalloc key size) = IsKey key
+FitsOp (op.Free key) = IsKey key
+FitsOp (op.Split key order first) = IsKey key × (order ≤ 9) × IsKey first
+FitsOp (op.Swap one two) = IsKey one × IsKey two
+FitsOp (op.Trim key pages) = IsKey key
+FitsOp (op.Hook section index) = section < 65
+FitsOp op.Unhook = Unit {0}
+FitsOp (op.Enter section) = section < 65
+FitsOp (op.Leave section) = section < 65
+FitsOp (op.Unload section) = section < 65
 
--- the section of one of so many sections, and of a module
-abbrev pub IsSection : ℕ → ℕ → Type 0
-IsSection sections section = (section < sections) × (section < 65)
+abbrev pub FitsOn : OnOp → Type 0
+FitsOn on = (on.cpu < 64) × FitsOp on.op
 
--- the numbers of an op lie in their ranges
-abbrev pub IsFormedOp : ℕ → TraceOp → Type 0
-IsFormedOp sections (op.Page key order) = IsKey key × (order ≤ 10)
-IsFormedOp sections (op.Kmalloc key size) = IsKey key
-IsFormedOp sections (op.Free key) = IsKey key
-IsFormedOp sections (op.Split key order first) = IsKey key × (order ≤ 9) × IsKey first
-IsFormedOp sections (op.Swap one two) = IsKey one × IsKey two
-IsFormedOp sections (op.Trim key pages) = IsKey key
-IsFormedOp sections (op.Hook section index) = IsSection sections section
-IsFormedOp sections op.Unhook = Unit {0}
-IsFormedOp sections (op.Enter section) = IsSection sections section
-IsFormedOp sections (op.Leave section) = IsSection sections section
-IsFormedOp sections (op.Unload section) = IsSection sections section
+abbrev pub FitsItem : Item → Type 0
+FitsItem (item.Round ops) = All FitsOn ops
+FitsItem (item.Load line section) = section < 65
+FitsItem item.Print = Unit {0}
+FitsItem item.Areas = Unit {0}

@@ -3,7 +3,6 @@ use Rattle.std.specs.Prelude.{ℕ, ◌==◌, Bool, List, [], slice_index_or, rep
 use Rattle.std.specs.List.{list_any}
 use Rattle.round_check.specs.SeatParts.{SeatParts}
 
-
 abbrev pub idle : SeatParts
 idle = record { hooks = []; inside = [] }
 

@@ -1,8 +1,10 @@
 -- The check of a trace's rounds: a fold over its items, each line after the other.
-use Rattle.std.specs.Prelude.{ℕ, ◌≡◌, ◌+◌, ◌-◌, ◌^◌, ◌<◌, ◌≤◌, ◌==◌, Bool, true, false, ◌&&◌, ◌||◌, not, nat_lt, List, [], ◌∷◌, ◌++◌, length, take, Result, Ok, Err, ⊤, slice_index_or, slice_set, count_by, All}
+use Rattle.std.specs.Prelude.{ℕ, ◌≡◌, ◌+◌, ◌-◌, ◌^◌, ◌==◌, Bool, true, false, ◌||◌, not, nat_lt, List, [], ◌∷◌, ◌++◌, length, take, Result, Ok, Err, ⊤, slice_index_or, slice_set, count_by}
 use Rattle.std.specs.List.{filter, list_any}
 use Rattle.trace.specs.declared.code.Code.{Code}
 use Rattle.trace.specs.declared.code.Code.TheVariants as code
+use Rattle.trace.specs.declared.code.TextError.{TextError}
+use Rattle.trace.specs.declared.code.TextError.TheVariants as text
 use Rattle.trace.specs.declared.traces.Item.{Item}
 use Rattle.trace.specs.declared.traces.Item.TheVariants as item
 use Rattle.trace.specs.declared.traces.OnOp.{OnOp}
@@ -12,7 +14,6 @@ use Rattle.trace.specs.declared.traces.Trace.{Trace}
 use Rattle.trace.specs.Judging.{◌>>=◌, ◌>>◌, need, at}
 use Rattle.round_check.specs.declared.keys.Bound.TheVariants.{Object, Block}
 use Rattle.round_check.specs.declared.keys.KeyState.{KeyState}
-use Rattle.round_check.specs.declared.keys.Turn.{Turn}
 use Rattle.round_check.specs.declared.modules.ModuleState.{ModuleState}
 use Rattle.round_check.specs.declared.walk.Walk.{Walk}
 use Rattle.round_check.specs.Keys.{take_key, give_key, split_key, swap_keys, trim_key}
@@ -124,6 +125,12 @@ walk_items [] walk = Ok walk
 walk_items (item ∷ others) walk = do
   next ← walk_item item walk
   walk_items others next
+
+-- What a call left is what judging several lines gives, unless memory ran out.
+abbrev pub LeavesAll : {S : Type 0} → Result ⊤ TextError → S → Result S (ℕ × Code) → Type 0
+LeavesAll (Ok done) new judged = judged ≡ Ok new
+LeavesAll (Err (text.Refused line code)) new judged = judged ≡ Err (line, code)
+LeavesAll (Err (text.Memory want)) new judged = ⊤
 
 -- what the round check says of a trace
 unfoldable pub rounds_of : Trace → Result ⊤ (ℕ × Code)

@@ -21,7 +21,10 @@ fn own_key(keys: &KeyTable, turn: Turn, key: u32) -> Result<(), Code>
     ensures { result ≡ own_key keys.now turn key }
 {
     let state = keys.at(key);
-    need(!(state.round == turn.round && state.cpu != turn.cpu), Code::SharedKey(key))
+    need(
+        !(state.round == turn.round && state.cpu != turn.cpu),
+        Code::SharedKey(key),
+    )
 }
 
 #[tactic(auto, unfolding(crate::specs::Keys::bound_key))]
@@ -135,13 +138,23 @@ pub(crate) fn pages_of(order: u32) -> u32
 
 // The new keys of a split, once the split block is known.
 #[tactic(auto, unfolding(crate::specs::Keys::part_keys))]
-fn part_keys(keys: &mut KeyTable, turn: Turn, key: u32, order: u32, first: u32, count: u32) -> Result<(), Code>
+fn part_keys(
+    keys: &mut KeyTable,
+    turn: Turn,
+    key: u32,
+    order: u32,
+    first: u32,
+    count: u32,
+) -> Result<(), Code>
     requires key { key < 65536 }
     requires order { order ≤ 10 }
     requires first { 1 ≤ first }
     ensures { Settles result keys.new (part_keys keys.old turn key order first count) }
 {
-    need(u64::from(first) + u64::from(count) - 1 <= 65_535, Code::Keys)?;
+    need(
+        u64::from(first) + u64::from(count) - 1 <= 65_535,
+        Code::Keys,
+    )?;
     own_keys(keys, turn, first, count)?;
     free_keys(keys, first, count)?;
     let part = Some(Bound::Block {
@@ -156,7 +169,13 @@ fn part_keys(keys: &mut KeyTable, turn: Turn, key: u32, order: u32, first: u32, 
 
 /// `split`
 #[tactic(auto, unfolding(crate::specs::Keys::split_key))]
-pub(crate) fn split_key(keys: &mut KeyTable, turn: Turn, key: u32, order: u32, first: u32) -> Result<(), Code>
+pub(crate) fn split_key(
+    keys: &mut KeyTable,
+    turn: Turn,
+    key: u32,
+    order: u32,
+    first: u32,
+) -> Result<(), Code>
     requires key { key < 65536 }
     requires order { order ≤ 10 }
     requires first { 1 ≤ first }
@@ -167,7 +186,14 @@ pub(crate) fn split_key(keys: &mut KeyTable, turn: Turn, key: u32, order: u32, f
     let (whole, pages, trimmed) = block_of(key, bound)?;
     need(!trimmed, Code::Trimmed(key))?;
     need(order < whole, Code::Orders)?;
-    part_keys(keys, turn, key, order, first, (pages / pages_of(order)).saturating_sub(1))
+    part_keys(
+        keys,
+        turn,
+        key,
+        order,
+        first,
+        (pages / pages_of(order)).saturating_sub(1),
+    )
 }
 
 /// `swap`

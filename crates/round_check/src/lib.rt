@@ -7,6 +7,4 @@ mod modules;
 mod seats;
 mod walk;
 
-
-
-
+pub use walk::check_rounds;

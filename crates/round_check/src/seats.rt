@@ -186,6 +186,9 @@ impl Seats {
     pub(crate) fn users(&self, section: u32) -> u32
         ensures { result ≡ count_by (is_inside section) self.now }
     {
-        self.seats.iter().filter(|seat| seat.is_inside(section)).count() as u32
+        self.seats
+            .iter()
+            .filter(|seat| seat.is_inside(section))
+            .count() as u32
     }
 }

@@ -1,10 +1,10 @@
 //! The check of a trace's rounds.
 
-ghost use Rattle.std.specs.Prelude.{◌≡◌, ◌<◌, ◌≤◌, length, All, IfOk};
+ghost use Rattle.std.specs.Prelude.{◌≡◌, ◌+◌, ◌<◌, ◌≤◌, length, All, IfOk};
 ghost use Rattle.trace.specs.Judging.{Leaves, Reads};
-ghost use Rattle.round_check.specs.Formed.{IsFormedOp};
-ghost use Rattle.round_check.specs.Keys.{Settles};
-ghost use Rattle.round_check.specs.Walk.{start, moved, enter_module, leave_module, unload_module, hook_tag, unhook_tag, load_module, walk_op, walk_ops, walk_item, walk_items, rounds_of};
+ghost use Rattle.trace.specs.Formed.{IsFormedTrace};
+ghost use Rattle.round_check.specs.Formed.{FitsOp, FitsOn, FitsItem};
+ghost use Rattle.round_check.specs.Walk.{start, moved, enter_module, leave_module, unload_module, hook_tag, unhook_tag, load_module, walk_op, walk_ops, walk_item, walk_items, rounds_of, LeavesAll};
 
 use crate::key_checks::{give_key, need, pages_of, split_key, swap_keys, take_key, trim_key};
 use crate::keys::{Bound, KeyTable, Turn};
@@ -38,7 +38,8 @@ fn start(alloc: Global) -> Result<Walk, AllocError>
 
 fn moved(walk: &mut Walk, section: u32)
     requires { section < 65 }
-    ensures { walk.new ≡ moved walk.old section }
+    ensures moved { walk.new ≡ moved walk.old section }
+    ensures round { walk.new.round ≡ walk.old.round }
 {
     let mut state = walk.modules.at(section);
     state.moved = walk.round;
@@ -49,7 +50,8 @@ fn moved(walk: &mut Walk, section: u32)
 fn enter_module(walk: &mut Walk, cpu: u32, section: u32) -> Result<(), LineError>
     requires cpu { cpu < 64 }
     requires section { section < 65 }
-    ensures { Leaves result walk.new (enter_module walk.old cpu section) }
+    ensures judged { Leaves result walk.new (enter_module walk.old cpu section) }
+    ensures round { walk.new.round ≡ walk.old.round }
 {
     let state = walk.modules.at(section);
     need(state.unloaded != walk.round, Code::UnloadShared(section))?;
@@ -64,7 +66,8 @@ fn enter_module(walk: &mut Walk, cpu: u32, section: u32) -> Result<(), LineError
 fn leave_module(walk: &mut Walk, cpu: u32, section: u32) -> Result<(), LineError>
     requires cpu { cpu < 64 }
     requires section { section < 65 }
-    ensures { Leaves result walk.new (leave_module walk.old cpu section) }
+    ensures judged { Leaves result walk.new (leave_module walk.old cpu section) }
+    ensures round { walk.new.round ≡ walk.old.round }
 {
     let state = walk.modules.at(section);
     need(state.unloaded != walk.round, Code::UnloadShared(section))?;
@@ -78,7 +81,8 @@ fn leave_module(walk: &mut Walk, cpu: u32, section: u32) -> Result<(), LineError
 #[tactic(auto, unfolding(crate::specs::Walk::unload_module))]
 fn unload_module(walk: &mut Walk, section: u32) -> Result<(), LineError>
     requires { section < 65 }
-    ensures { Leaves result walk.new (unload_module walk.old section) }
+    ensures judged { Leaves result walk.new (unload_module walk.old section) }
+    ensures round { walk.new.round ≡ walk.old.round }
 {
     let mut state = walk.modules.at(section);
     let shared = state.moved == walk.round || state.unloaded == walk.round;
@@ -95,9 +99,13 @@ fn unload_module(walk: &mut Walk, section: u32) -> Result<(), LineError>
 #[tactic(auto, unfolding(crate::specs::Walk::hook_tag))]
 fn hook_tag(walk: &mut Walk, cpu: u32, section: u32) -> Result<(), LineError>
     requires { cpu < 64 }
-    ensures { Leaves result walk.new (hook_tag walk.old cpu section) }
+    ensures judged { Leaves result walk.new (hook_tag walk.old cpu section) }
+    ensures round { walk.new.round ≡ walk.old.round }
 {
-    need(section == 0 || walk.seats.is_inside(cpu, section), Code::NotInside(section))?;
+    need(
+        section == 0 || walk.seats.is_inside(cpu, section),
+        Code::NotInside(section),
+    )?;
     need(walk.seats.hooks_out(cpu) < HOOK_LIMIT, Code::Deep)?;
     walk.seats.hook(cpu, section)?;
     Ok(())
@@ -106,7 +114,8 @@ fn hook_tag(walk: &mut Walk, cpu: u32, section: u32) -> Result<(), LineError>
 #[tactic(auto, unfolding(crate::specs::Walk::unhook_tag))]
 fn unhook_tag(walk: &mut Walk, cpu: u32) -> Result<(), LineError>
     requires { cpu < 64 }
-    ensures { Leaves result walk.new (unhook_tag walk.old cpu) }
+    ensures judged { Leaves result walk.new (unhook_tag walk.old cpu) }
+    ensures round { walk.new.round ≡ walk.old.round }
 {
     need(walk.seats.hooks_out(cpu) > 0, Code::NoHook)?;
     walk.seats.unhook(cpu);
@@ -116,7 +125,8 @@ fn unhook_tag(walk: &mut Walk, cpu: u32) -> Result<(), LineError>
 #[tactic(auto, unfolding(crate::specs::Walk::load_module))]
 fn load_module(walk: &mut Walk, section: u32) -> Result<(), LineError>
     requires { section < 65 }
-    ensures { Leaves result walk.new (load_module walk.old section) }
+    ensures judged { Leaves result walk.new (load_module walk.old section) }
+    ensures round { walk.new.round ≡ walk.old.round }
 {
     let mut state = walk.modules.at(section);
     need(!state.loaded, Code::AlreadyLoaded(section))?;
@@ -129,8 +139,9 @@ fn load_module(walk: &mut Walk, section: u32) -> Result<(), LineError>
 #[tactic(auto, unfolding(crate::specs::Walk::walk_op))]
 fn walk_op(walk: &mut Walk, cpu: u32, op: TraceOp) -> Result<(), LineError>
     requires cpu { cpu < 64 }
-    requires op { IsFormedOp 65 op }
-    ensures { Leaves result walk.new (walk_op cpu op walk.old) }
+    requires op { FitsOp op }
+    ensures judged { Leaves result walk.new (walk_op cpu op walk.old) }
+    ensures round { walk.new.round ≡ walk.old.round }
 {
     let turn = Turn {
         round: walk.round,
@@ -172,4 +183,64 @@ fn walk_op(walk: &mut Walk, cpu: u32, op: TraceOp) -> Result<(), LineError>
         TraceOp::Leave { section } => leave_module(walk, cpu, section),
         TraceOp::Unload { section } => unload_module(walk, section),
     }
+}
+
+// The ops of a round, in the order of their lines.
+fn walk_ops(walk: &mut Walk, ops: &[OnOp]) -> Result<(), TextError>
+    requires { All FitsOn ops.now }
+    ensures judged { LeavesAll result walk.new (walk_ops ops.now walk.old) }
+    ensures round { walk.new.round ≡ walk.old.round }
+{
+    for on in ops {
+        if let Err(error) = walk_op(walk, on.cpu, on.op) {
+            return Err(error_at(on.line, error));
+        }
+    }
+    Ok(())
+}
+
+#[tactic(auto, unfolding(crate::specs::Walk::walk_item))]
+fn walk_item(walk: &mut Walk, item: &Item) -> Result<(), TextError>
+    requires item { FitsItem item.now }
+    requires round { walk.old.round < 4294967295 }
+    ensures judged { LeavesAll result walk.new (walk_item item.now walk.old) }
+    ensures round { walk.new.round ≤ walk.old.round + 1 }
+{
+    match item {
+        Item::Round { ops } => {
+            walk.round += 1;
+            walk_ops(walk, ops.as_slice())
+        }
+        Item::Load { line, section } => match load_module(walk, *section) {
+            Ok(()) => Ok(()),
+            Err(error) => Err(error_at(*line, error)),
+        },
+        Item::Print | Item::Areas => Ok(()),
+    }
+}
+
+fn walk_items(walk: &mut Walk, items: &[Item]) -> Result<(), TextError>
+    requires items { All FitsItem items.now }
+    requires few { walk.old.round + length items.now < 4294967296 }
+    ensures { LeavesAll result walk.new (walk_items items.now walk.old) }
+{
+    for item in items {
+        walk_item(walk, item)?;
+    }
+    Ok(())
+}
+
+/// Whether the rounds of a trace may run: no two CPUs name one key in a round, and each line finds its keys, modules
+/// and hooks as it needs them. Refuses the first line that does not.
+#[tactic(auto, unfolding(crate::specs::Walk::rounds_of))]
+pub fn check_rounds(alloc: Global, trace: &Trace) -> Result<(), TextError>
+    requires { IsFormedTrace trace.now }
+    ensures { Reads result (rounds_of trace.now) }
+{
+    let _count = trace.sections.count();
+    let mut walk = match start(alloc) {
+        Ok(walk) => walk,
+        Err(error) => return Err(TextError::Memory(error)),
+    };
+    walk_items(&mut walk, trace.body.as_slice())
 }

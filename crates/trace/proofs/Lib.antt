@@ -4,3 +4,7 @@ pub mod Judged
 pub mod StepFormLines
 pub mod StepFormHead
 pub mod StepForm
+pub mod Binds
+pub mod OpLaws
+pub mod HeadLaws
+pub mod TraceLaws

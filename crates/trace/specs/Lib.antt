@@ -11,3 +11,4 @@ pub mod StepForm
 pub mod TraceWords
 pub mod TraceGrammar
 pub mod TraceReading
+pub mod Formed

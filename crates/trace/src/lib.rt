@@ -4,6 +4,7 @@
 mod code;
 mod forms;
 mod head;
+mod laws;
 mod line_error;
 mod places;
 mod step_lines;
@@ -18,11 +19,12 @@ mod traces;
 mod words;
 
 pub use code::{Code, TextError};
+pub use laws::traces_are_formed;
 pub use line_error::LineError;
 pub use step_reading::read_steps;
 pub use steps::{StepAct, StepActor, StepLine, StepLines, StepOp, Steps};
-pub use trace_reading::read_trace;
 pub use text_error::error_at;
+pub use trace_reading::read_trace;
 pub use traces::{Item, Items, OnOp, OnOps, Trace, TraceOp};
 
 #[cfg(test)]

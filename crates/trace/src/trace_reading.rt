@@ -2,6 +2,7 @@
 
 ghost use Rattle.std.specs.Prelude.{◌≡◌, ◌<◌, ◌≤◌, length, IfOk, OnOk};
 ghost use Rattle.text_form.specs.Lines.{lines_of, tail_of};
+ghost use Rattle.trace.specs.Formed.{IsFormedTrace};
 ghost use Rattle.trace.specs.Judging.{Leaves, Reads};
 ghost use Rattle.trace.specs.TraceReading.{empty_reading, closed, in_body, keyword_line, trace_line, trace_lines, trace_header, trace_from, trace_of, with_item, with_op, with_print, with_round};
 
@@ -233,9 +234,9 @@ fn trace_from(shows_kept: bool, reading: TraceReading) -> Result<Trace, AllocErr
     })
 }
 
-/// The trace that a text spells, or the first line that fails with its code.
+// The trace that a text spells.
 #[tactic(auto, unfolding(crate::specs::TraceReading::trace_of))]
-pub fn read_trace(alloc: Global, text: &[u8]) -> Result<Trace, TextError>
+fn whole_trace(alloc: Global, text: &[u8]) -> Result<Trace, TextError>
     requires { length text.now ≤ 4194304 }
     ensures { Reads result (trace_of text.now) }
 {
@@ -252,4 +253,13 @@ pub fn read_trace(alloc: Global, text: &[u8]) -> Result<Trace, TextError>
         Ok(trace) => Ok(trace),
         Err(error) => Err(TextError::Memory(error)),
     }
+}
+
+/// The trace that a text spells, which is formed, or the first line that fails with its code.
+pub fn read_trace(alloc: Global, text: &[u8]) -> Result<Trace, TextError>
+    requires { length text.now ≤ 4194304 }
+    ensures judged { Reads result (trace_of text.now) }
+    ensures formed { IfOk result (λ trace. IsFormedTrace trace) }
+{
+    whole_trace(alloc, text)
 }

@@ -1,4 +1,4 @@
-use Rattle.std.proofs.Common.{◌≡◌, ◌+◌, ◌<◌, sym, ◌∙◌, arith}
+use Rattle.std.proofs.Common.{◌+◌, sym, ◌∙◌, arith}
 use Rattle.round_check.proofs.Ranges.{free_more, free_stops}
 use Rattle.round_check.proofs.key_checks.free_keys.Goals as goal
 

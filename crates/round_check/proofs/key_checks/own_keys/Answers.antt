@@ -1,4 +1,4 @@
-use Rattle.std.proofs.Common.{◌≡◌, ◌+◌, ◌<◌, sym, ◌∙◌, arith}
+use Rattle.std.proofs.Common.{◌+◌, sym, ◌∙◌, arith}
 use Rattle.round_check.proofs.Ranges.{own_more, own_stops}
 use Rattle.round_check.proofs.key_checks.own_keys.Goals as goal
 
