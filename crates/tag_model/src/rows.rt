@@ -45,8 +45,7 @@ pub fn word_steps_keep_the_sums()
 {}
 
 /// Where no CPU has a hand, what is counted is what the live list holds, and so each tag's words are its bytes and
-/// references now live, modulo 2^64. The live list has no place twice, and none that
-/// holds nothing.
+/// references now live, modulo 2^64. The live list has no place twice, and none that holds nothing.
 pub fn quiet_sums_are_those_of_the_live_list()
     ensures counted { (parts : List Part) (kind : Kind) (t : ℕ) → sum_by has_hand parts ≡ 0 → sum_by (counted kind t) parts ≡ live_total kind t (live_of parts) }
     ensures words { (k : Shape) (parts : List Part) (kind : Kind) (t : ℕ) → Safe k parts → sum_by has_hand parts ≡ 0 → wrap (sum_by (word_of kind t) parts) ≡ wrap (live_total kind t (live_of parts)) }
