@@ -1,5 +1,5 @@
 -- The text of each code.
-use Rattle.std.specs.Prelude.{ℕ, ◌<◌, ⊤, List, [], ◌++◌, codes, decimal}
+use Rattle.std.specs.Prelude.{ℕ, List, [], ◌++◌, codes, decimal}
 use Rattle.std.specs.List.{slice_index_or}
 use Rattle.trace.specs.declared.code.Code.{Code}
 use Rattle.trace.specs.declared.code.Code.TheVariants as code
@@ -109,7 +109,7 @@ argument_of code.Deep = Nothing
 argument_of code.NoHook = Nothing
 argument_of code.NotBuilt = Nothing
 
--- a number in decimal, or the name of the module; the names are those of all sections
+-- a number in decimal, or the name of the module; the names are those of all sections, and a module that is none of them has none
 abbrev pub argument_text : List (List ℕ) → Argument → List ℕ
 argument_text names Nothing = []
 argument_text names (Number n) = codes " " ++ decimal n
@@ -117,9 +117,3 @@ argument_text names (Module section) = codes " " ++ slice_index_or names section
 
 unfoldable pub code_text : List (List ℕ) → Code → List ℕ
 code_text names c = code_word c ++ argument_text names (argument_of c)
-
--- a module of an argument is one of so many sections
-abbrev pub IsArgument : Argument → ℕ → Type 0
-IsArgument Nothing count = ⊤
-IsArgument (Number n) count = ⊤
-IsArgument (Module section) count = section < count

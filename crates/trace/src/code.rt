@@ -131,11 +131,10 @@ impl Code {
     ghost use Rattle.std.specs.Prelude.{◌≡◌, ◌++◌, ◌<◌, length, OnOk, OnErr};
     ghost use Rattle.codetag.specs.Prefix.{IsPrefix};
     ghost use Rattle.tag_section.specs.Section.{names_of};
-    ghost use Rattle.trace.specs.Codes.{code_word, argument_of, code_text, IsArgument};
+    ghost use Rattle.trace.specs.Codes.{code_word, argument_of, code_text};
 
-    /// Appends the text. The number of a module is that of its section.
+    /// Appends the text. The number of a module is that of its section; a module that is none of them has no name.
     pub fn to_text(&self, sections: &Sections, out: &mut Vec<u8>) -> Result<(), AllocError>
-        requires { IsArgument (argument_of self.now) (length sections.now) }
         ensures ok { OnOk result
             (out.new.items ≡ out.old.items ++ code_text (names_of sections.now) self.now) }
         ensures err { OnErr result (out.new.items ≡ out.old.items) }
@@ -151,7 +150,6 @@ impl Code {
     // Appends the text, or a front of it.
     #[tactic(auto, using(std::proofs::lemmas::Grind::common_steps), unfolding(crate::specs::Codes::code_text))]
     fn append(&self, sections: &Sections, out: &mut Vec<u8>) -> Result<(), AllocError>
-        requires { IsArgument (argument_of self.now) (length sections.now) }
         ensures ok { OnOk result
             (out.new.items ≡ out.old.items ++ code_text (names_of sections.now) self.now) }
         ensures err { OnErr result (IsPrefix out.old.items out.new.items) }
@@ -165,7 +163,10 @@ impl Code {
             }
             Argument::Module(section) => {
                 out.extend_from_slice(b" ")?;
-                out.extend_from_slice(sections.name(section))
+                if section < sections.count() {
+                    out.extend_from_slice(sections.name(section))?;
+                }
+                Ok(())
             }
         }
     }
