@@ -1,12 +1,31 @@
 -- What is written for an input, and the status.
-use Rattle.std.specs.Prelude.{◌≡◌, ℕ, ◌++◌, ◌<◌, ◌≤◌, ◌⊎◌, Option, Some, None, Result, Ok, Err, List, [], ◌∷◌, length, map, codes, decimal, nat_lt, if◌then◌else◌}
-use Rattle.std.specs.String.{string_bytes}
+use Rattle.std.specs.Prelude.{◌≡◌, ℕ, ◌++◌, ◌+◌, ◌<◌, ◌≤◌, ◌==◌, ◌⊎◌, ⊤, Bool, true, false, Vec, Option, Some, None, unwrap_or, Result, Ok, Err, List, [], ◌∷◌, length, codes, decimal, nat_lt, if◌then◌else◌}
 use Rattle.std.specs.Str.{bytes_eq}
-use Rattle.tag_section.specs.Section.{Section}
+use Rattle.std.specs.Global.{Global}
+use Rattle.std.specs.Io.KnownBytes.{Appends, Consumes, IsAtEnd}
+use Rattle.outside.specs.Bytes.{AppendsPrefix}
+use Rattle.tag_section.specs.Section.{names_of}
+use Rattle.text_form.specs.Lines.{lines_of}
+use Rattle.text_form.specs.Words.{word_at}
 use Rattle.trace.specs.declared.code.Code.{Code}
+use Rattle.trace.specs.declared.code.Code.TheVariants as code
+use Rattle.trace.specs.declared.code.TextError.{TextError}
+use Rattle.trace.specs.declared.code.TextError.TheVariants as text
+use Rattle.trace.specs.declared.steps.StepAct.{StepAct}
+use Rattle.trace.specs.declared.steps.StepAct.TheVariants as act
+use Rattle.trace.specs.declared.steps.StepActor.{StepActor}
+use Rattle.trace.specs.declared.steps.StepActor.TheVariants as actor
+use Rattle.trace.specs.declared.steps.StepLine.{StepLine}
+use Rattle.trace.specs.declared.steps.Steps.{Steps}
+use Rattle.trace.specs.declared.traces.Trace.{Trace}
 use Rattle.trace.specs.Codes.{code_text}
+use Rattle.trace.specs.StepReading.{steps_of}
+use Rattle.trace.specs.TraceReading.{trace_of}
+use Rattle.round_check.specs.Walk.{rounds_of}
+use Rattle.profile_top.specs.Schedule.{Played, schedule_of}
+use Rattle.profile_top.specs.declared.answer.Answer.{Answer}
 use Rattle.profile_top.specs.declared.answer.Mode.{Mode}
-use Rattle.profile_top.specs.declared.answer.Mode.TheVariants.{Step}
+use Rattle.profile_top.specs.declared.answer.Mode.TheVariants as mode
 use Rattle.profile_top.specs.declared.answer.TheConstants.{INPUT_LIMIT}
 
 pub record Written : Type 0 where
@@ -15,7 +34,7 @@ pub record Written : Type 0 where
 
 -- `line N: CODE`
 unfoldable pub refusal_text : List (List ℕ) → ℕ → Code → List ℕ
-refusal_text names line code = codes "line " ++ decimal line ++ codes ": " ++ code_text names code ++ 10 ∷ []
+refusal_text names line code = codes "line " ++ decimal line ++ codes ": " ++ code_text names code ++ codes "\n"
 
 abbrev pub refused : List (List ℕ) → ℕ × Code → Written
 refused names why = record { status = 1; text = refusal_text names why.0 why.1 }
@@ -23,8 +42,120 @@ refused names why = record { status = 1; text = refusal_text names why.0 why.1 }
 abbrev pub too_long : Written
 too_long = record { status = 1; text = codes "input too long\n" }
 
--- the words of the command line
+-- ---- `step`
+
+-- the number of the first line that has this first word; the first of the lines has the number `number`
+abbrev pub line_with : List ℕ → ℕ → List (List ℕ) → Option ℕ
+line_with word number [] = None
+line_with word number (line ∷ lines) = if bytes_eq (word_at line 0) word then Some number else line_with word (number + 1) lines
+
+abbrev pub is_managers_actor : StepActor → Bool
+is_managers_actor (actor.Cpu cpu) = false
+is_managers_actor actor.Manager = true
+
+-- a line of the actor `m`
+abbrev pub is_managers : StepAct → Bool
+is_managers (act.Do who op) = is_managers_actor who
+is_managers (act.Go who count) = is_managers_actor who
+is_managers act.Print = false
+is_managers (act.Words section index) = false
+
+abbrev pub managers_line : List StepLine → Option ℕ
+managers_line [] = None
+managers_line (line ∷ lines) = if is_managers line.act then Some line.line else managers_line lines
+
+-- the first line that asks for a module, which isn't built yet: the first `module` line, and where there is none the first line of the actor `m`
+abbrev pub not_built : List ℕ → Steps → Option ℕ
+not_built input steps = if length steps.sections == 1 then managers_line steps.body else Some (unwrap_or (line_with (codes "module") 1 (lines_of input)) 0)
+
+abbrev pub played : List (List ℕ) → Result Played (ℕ × Code) → Written
+played names (Ok p) = record { status = 0; text = p.text }
+played names (Err why) = refused names why
+
+abbrev pub step_built : Steps → Option ℕ → Written
+step_built steps (Some line) = refused (names_of steps.sections) (line, code.NotBuilt)
+step_built steps None = played (names_of steps.sections) (schedule_of steps)
+
+abbrev pub step_read : List ℕ → Result Steps (ℕ × Code) → Written
+step_read input (Ok steps) = step_built steps (not_built input steps)
+step_read input (Err why) = refused [] why
+
+-- ---- `check`
+
+-- `ok lines N`
+unfoldable pub ok_text : ℕ → List ℕ
+ok_text count = codes "ok lines " ++ decimal count ++ codes "\n"
+
+abbrev pub all_well : List ℕ → Written
+all_well input = record { status = 0; text = ok_text (length (lines_of input)) }
+
+abbrev pub first_of : List (List ℕ) → List ℕ
+first_of [] = []
+first_of (line ∷ lines) = line
+
+-- a schedule, by its first line; all else is read as a trace
+abbrev pub is_schedule : List ℕ → Bool
+is_schedule input = bytes_eq (first_of (lines_of input)) (codes "memprof-steps 1.0")
+
+abbrev pub steps_checked : List ℕ → Result Steps (ℕ × Code) → Written
+steps_checked input (Ok steps) = all_well input
+steps_checked input (Err why) = refused [] why
+
+abbrev pub rounds_checked : List ℕ → Trace → Result ⊤ (ℕ × Code) → Written
+rounds_checked input trace (Ok done) = all_well input
+rounds_checked input trace (Err why) = refused (names_of trace.sections) why
+
+abbrev pub trace_checked : List ℕ → Result Trace (ℕ × Code) → Written
+trace_checked input (Ok trace) = rounds_checked input trace (rounds_of trace)
+trace_checked input (Err why) = refused [] why
+
+-- ---- all
+
+abbrev pub answer_in : Mode → List ℕ → Written
+answer_in mode.Step input = step_read input (steps_of input)
+answer_in mode.Check input = if is_schedule input then steps_checked input (steps_of input) else trace_checked input (trace_of input)
+
+-- what is written for an input
+abbrev pub answer_of : Mode → List ℕ → Written
+answer_of mode input = if nat_lt INPUT_LIMIT (length input) then too_long else answer_in mode input
+
+-- the one word of the command line
+abbrev pub mode_word : List ℕ → Option Mode
+mode_word word = if bytes_eq word (codes "step") then Some mode.Step else (if bytes_eq word (codes "check") then Some mode.Check else None)
+
 abbrev pub mode_of : List (List ℕ) → Option Mode
 mode_of [] = None
-mode_of (word ∷ []) = if bytes_eq word (codes "step") then Some Step else None
+mode_of (word ∷ []) = mode_word word
 mode_of (word ∷ other ∷ others) = None
+
+-- ---- what calls leave
+
+-- a call gave this answer
+pub record Gives (answer : Answer) (written : Written) : Type 0 where
+  pub status : answer.status ≡ written.status
+  pub text : answer.text.items ≡ written.text
+
+-- A call gave the text of what was played, unless memory ran out.
+abbrev pub Prints : Result (Vec ℕ Global) TextError → Result Played (ℕ × Code) → Type 0
+Prints (Ok text) (Ok p) = text.items ≡ p.text
+Prints (Ok text) (Err why) = ⊥
+Prints (Err (text.Refused line code)) meant = meant ≡ Err (line, code)
+Prints (Err (text.Memory want)) meant = ⊤
+
+-- the input that was read: all of it, or one byte more than is read
+pub record IsInput (old new : Option (List ℕ)) (input : List ℕ) : Type 0 where
+  pub taken : Consumes old new input
+  pub whole : IsAtEnd new ⊎ (length input ≡ INPUT_LIMIT + 1)
+
+-- the status and the bytes that went out are those of the input
+pub record Served (mode : Mode) (status : ℕ) (left left_after taken taken_after : Option (List ℕ)) : Type 0 where
+  pub input : List ℕ
+  pub is_input : IsInput left left_after input
+  pub told : status ≡ (answer_of mode input).status
+  pub written : Appends taken taken_after (answer_of mode input).text
+
+-- the bytes that went out are the first of those of the input
+pub record ServedInPart (mode : Mode) (left left_after taken taken_after : Option (List ℕ)) : Type 0 where
+  pub input : List ℕ
+  pub is_input : IsInput left left_after input
+  pub written : AppendsPrefix taken taken_after (answer_of mode input).text

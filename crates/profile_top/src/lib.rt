@@ -3,5 +3,11 @@
 
 mod act;
 mod answer;
+mod number;
 mod play;
+mod schedule;
+mod still;
+
+pub use answer::INPUT_LIMIT;
+pub use still::memprof_still;
 

@@ -14,12 +14,12 @@ ghost use Rattle.profile_top.specs.Printed.{kernel_len, rows_below, cpu_text, wo
 use allocinfo::{Row, print_rows};
 use core_steps::machine::Core;
 use core_steps::op::{Actor, Op, QueueError};
-use itoa::Buffer;
 use std::alloc::{AllocError, Global};
 use tag_section::Sections;
 use trace::{Code, StepLine, TextError};
 
 use crate::act::{Act, ActError, act_of, code_of};
+use crate::number::write_number;
 
 /// Queues the op.
 fn play_do(core: &mut Core, actor: Actor, op: Op) -> Result<(), ActError>
@@ -116,13 +116,6 @@ fn play_print(
 {
     let rows = kernel_rows(alloc, core, sections.len_of(0))?;
     print_rows(sections, rows.as_slice(), out)
-}
-
-fn write_number(number: u64, out: &mut Vec<u8>) -> Result<(), AllocError>
-    ensures { OnOk result (out.new.items ≡ out.old.items ++ decimal number) }
-{
-    let mut buffer = Buffer::new();
-    out.extend_from_slice(buffer.format(number).as_bytes())
 }
 
 fn write_cpu(cpu: u32, bytes: u64, calls: u64, out: &mut Vec<u8>) -> Result<(), AllocError>

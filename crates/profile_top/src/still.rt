@@ -1,0 +1,83 @@
+//! The call that the program makes.
+
+ghost use Rattle.std.specs.Prelude.{◌≡◌, ◌≢◌, ◌<◌, ◌≤◌, ◌⊎◌, ◌↔◌, ℕ, List, Some, None, map};
+ghost use Rattle.std.specs.String.{string_bytes};
+ghost use Rattle.std.specs.Io.KnownBytes.{Appends};
+ghost use Rattle.outside.specs.Faults.{Rose};
+ghost use Rattle.outside.specs.Bytes.{AppendsPrefix};
+ghost use Rattle.profile_top.specs.declared.answer.Mode.{Mode};
+ghost use Rattle.profile_top.specs.Answers.{mode_word, mode_of, answer_of, Served, ServedInPart};
+
+use outside::{read_all, write_all, ReadError, Sink, Source};
+use std::alloc::Global;
+
+use crate::answer::{answer_input, Mode, INPUT_LIMIT};
+
+fn mode_word(word: &[u8]) -> Option<Mode>
+    ensures { result ≡ mode_word word.now }
+{
+    match word {
+        b"step" => Some(Mode::Step),
+        b"check" => Some(Mode::Check),
+        _ => None,
+    }
+}
+
+/// What the words ask for. None where they are not taken.
+fn mode_of(words: &[String]) -> Option<Mode>
+    ensures { result ≡ mode_of (map string_bytes words.now) }
+{
+    match words {
+        [word] => mode_word(word.as_bytes()),
+        _ => None,
+    }
+}
+
+/// Writes the text. The status is 5 where that fails.
+fn finish<K: Sink>(sink: &mut K, status: u8, text: &[u8]) -> u8
+    ensures whole { result ≢ 5 → (result ≡ status) × Appends (K.taken sink.old) (K.taken sink.new) text.now }
+    ensures part { result ≡ 5 → (status ≡ 5) ⊎ (Rose (K.faults sink.old) (K.faults sink.new) × AppendsPrefix (K.taken sink.old) (K.taken sink.new) text.now) }
+    ensures kept { K.faults sink.old ≤ K.faults sink.new }
+{
+    match write_all(sink, text) {
+        Ok(()) => status,
+        Err(_failed) => 5,
+    }
+}
+
+/// Serves `step` and `check`: reads the source, and writes the answer to the sink. The status is 0 where the input is
+/// accepted, 1 where it is refused, 2 where the words are not taken, 3 where memory ran out, 4 where reading failed and
+/// 5 where writing failed.
+pub fn memprof_still<S: Source, K: Sink>(
+    alloc: Global,
+    words: &[String],
+    source: &mut S,
+    sink: &mut K,
+) -> u8
+    ensures range { result < 6 }
+    ensures words { (result ≡ 2) ↔ (mode_of (map string_bytes words.now) ≡ None) }
+    ensures unread { result ≡ 2 → source.new ≡ source.old }
+    ensures silent { (result ≡ 2) ⊎ (result ≡ 3) ⊎ (result ≡ 4) → sink.new ≡ sink.old }
+    ensures served { (mode : Mode) → mode_of (map string_bytes words.now) ≡ Some mode → result < 2 → Served mode result (S.left source.old) (S.left source.new) (K.taken sink.old) (K.taken sink.new) }
+    ensures decided { (mode : Mode) (input : List ℕ) → mode_of (map string_bytes words.now) ≡ Some mode → S.left source.old ≡ Some input → result < 2
+        → (result ≡ (answer_of mode input).status) × Appends (K.taken sink.old) (K.taken sink.new) (answer_of mode input).text }
+    ensures in_part { (mode : Mode) → mode_of (map string_bytes words.now) ≡ Some mode → result ≡ 5 → ServedInPart mode (S.left source.old) (S.left source.new) (K.taken sink.old) (K.taken sink.new) }
+    ensures read_fault { result ≡ 4 → Rose (S.faults source.old) (S.faults source.new) }
+    ensures write_fault { result ≡ 5 → Rose (K.faults sink.old) (K.faults sink.new) }
+    ensures complete { (mode : Mode) → mode_of (map string_bytes words.now) ≡ Some mode → ¬ Rose (S.faults source.old) (S.faults source.new) → ¬ Rose (K.faults sink.old) (K.faults sink.new) → result ≢ 3 → result < 2 }
+    ensures faults { (S.faults source.old ≤ S.faults source.new) × (K.faults sink.old ≤ K.faults sink.new) }
+{
+    let Some(mode) = mode_of(words) else {
+        return 2;
+    };
+    let input = match read_all(alloc, source, INPUT_LIMIT) {
+        Ok(input) => input,
+        Err(ReadError::TooLong) => return finish(sink, 1, b"input too long\n"),
+        Err(ReadError::Failed) => return 4,
+        Err(ReadError::Memory(_)) => return 3,
+    };
+    match answer_input(alloc, mode, &input) {
+        Ok(answer) => finish(sink, answer.status, &answer.text),
+        Err(_) => 3,
+    }
+}
