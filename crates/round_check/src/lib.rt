@@ -8,3 +8,6 @@ mod seats;
 mod walk;
 
 pub use walk::check_rounds;
+
+#[cfg(test)]
+mod tests;
