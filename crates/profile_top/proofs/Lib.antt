@@ -1,3 +1,4 @@
 pub mod Stepping
 pub mod Totals
 pub mod Lines
+pub mod Serving
