@@ -1,5 +1,5 @@
 -- A schedule that is read, and declares no module, is one that can be played.
-use Rattle.std.proofs.Common.{◌≡◌, ◌≢◌, ℕ, ◌+◌, ◌-◌, ◌<◌, ◌≤◌, List, [], ◌∷◌, refl, sym, ap, ◌∙◌, subst, arith, Option, Some, None, IfSome, Bool, true, false, ◌&&◌, nat_le, nat_lt, length, All, Vec, Global, Result, Ok, Err}
+use Rattle.std.proofs.Common.{◌≡◌, ℕ, ◌+◌, ◌-◌, ◌<◌, ◌≤◌, List, [], ◌∷◌, refl, ap, ◌∙◌, subst, arith, Option, Some, None, IfSome, Bool, true, false, ◌&&◌, nat_le, nat_lt, length, All, Vec, Global, Result, Ok, Err}
 use Rattle.std.specs.Prelude.{⊤}
 use Rattle.std.proofs.lemmas.Bool.{leb-true, ltb-true}
 use Rattle.std.specs.List.{AllByRecursion}
@@ -22,7 +22,7 @@ use Rattle.trace.specs.declared.code.Code.{Code}
 use Rattle.trace.specs.declared.code.TextError.{TextError}
 use Rattle.trace.specs.declared.code.TextError.TheVariants as text_error
 use Rattle.tag_model.specs.declared.shape.Shape.{Shape}
-use Rattle.trace.specs.StepForm.{AreSteps, IsStepOp, IsStepAct, IsKernelOp, IsKernelAct, AreNewKeys}
+use Rattle.trace.specs.StepForm.{AreSteps, IsStepOp, IsStepAct, IsKernelOp, IsKernelAct}
 use Rattle.trace.proofs.StepForm.{kernel_alone}
 use Rattle.profile_top.specs.declared.act.Act.TheVariants as act
 use Rattle.profile_top.specs.Acts.{op_of, act_of}

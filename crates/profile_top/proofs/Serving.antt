@@ -1,5 +1,5 @@
 -- What is too long.
-use Rattle.std.proofs.Common.{◌≡◌, ◌≢◌, ℕ, ◌+◌, ◌<◌, ◌≤◌, List, ◌++◌, refl, ap, subst, arith, Option, Some, None, Bool, true, length, length-append, lt-ltb, if◌then◌else◌, nat_lt}
+use Rattle.std.proofs.Common.{◌≡◌, ◌≢◌, ℕ, ◌+◌, ◌<◌, ◌≤◌, List, ◌++◌, ap, subst, arith, Option, Some, None, Bool, true, length, length-append, lt-ltb, if◌then◌else◌, nat_lt}
 use Rattle.std.specs.Io.KnownBytes.{Consumes, Appends}
 use Rattle.outside.specs.Bytes.{Took}
 use Rattle.outside.specs.declared.faults.ReadError.TheVariants.{TooLong}

@@ -1,5 +1,5 @@
 -- Steps one after the other.
-use Rattle.std.proofs.Common.{◌≡◌, ℕ, zero, suc, ◌+◌, ◌-◌, ◌<◌, ◌≤◌, List, [], ◌∷◌, ◌++◌, refl, sym, ap, ◌∙◌, subst, arith, Option, Some, None, Result, Ok, Err, Bool, true, false, IsTrue, ◌↔◌, length, drop, get_or}
+use Rattle.std.proofs.Common.{◌≡◌, ℕ, zero, suc, ◌+◌, ◌<◌, List, [], ◌∷◌, ◌++◌, refl, sym, ap, ◌∙◌, arith, Result, Ok, Err, Bool, true, false, IsTrue, ◌↔◌, length, drop, get_or}
 use Rattle.std.proofs.Math.Seq.{drop-cons}
 use Rattle.tag_model.specs.declared.shape.Shape.{Shape}
 use Rattle.tag_section.specs.Section.{Section}

@@ -1,7 +1,6 @@
 -- A core's totals and words, where its words are the sums of moves.
-use Rattle.std.proofs.Common.{◌≡◌, ℕ, zero, suc, ◌+◌, ◌-◌, ◌*◌, ◌/◌, ◌%◌, ◌<◌, ◌≤◌, List, [], ◌∷◌, ◌++◌, length, get_or, map, refl, sym, ap, ◌∙◌, subst, arith, sum_by, Bool, true, false, append_assoc, append-nil, add-zero, add-one, zero-add}
-use Rattle.std.proofs.lemmas.Bool.Decides.{nat_tests}
-use Rattle.std.proofs.lemmas.List.FromFn.{length-map-range_with_len, get_or-map-range_with_len, map-range_with_len_more}
+use Rattle.std.proofs.Common.{◌≡◌, ℕ, zero, suc, ◌+◌, ◌*◌, ◌/◌, ◌%◌, ◌<◌, List, [], ◌∷◌, ◌++◌, get_or, map, refl, sym, ap, ◌∙◌, subst, arith, sum_by, false, append_assoc, append-nil, add-zero, add-one, zero-add}
+use Rattle.std.proofs.lemmas.List.FromFn.{get_or-map-range_with_len, map-range_with_len_more}
 use Rattle.std.proofs.lemmas.List.Sums.{sum_by-cons}
 use Rattle.std.proofs.lemmas.Grind.{flat_map-append}
 use Rattle.std.specs.List.{range_with_len}
@@ -39,8 +38,13 @@ sum_here : (tags : ℕ) (moves : List Move) (kind : Kind) (t : ℕ) → t < tags
     → sum_by (λ (own : List ℕ). get_or own (word_place kind t) 0) (map (own_moved tags moves) cpus) ≡ sum_by (λ cpu. moved_word moves cpu kind t) cpus
 sum_here tags moves kind t h [] = refl
 sum_here tags moves kind t h (c ∷ cpus) =
-    omega (arith, sum_by-cons (λ (own : List ℕ). get_or own (word_place kind t) 0) (own_moved tags moves c) (map (own_moved tags moves) cpus), sum_by-cons (λ cpu. moved_word moves cpu kind t) c cpus,
-      word_here tags moves c kind t h, sum_here tags moves kind t h cpus)
+    omega (
+      arith,
+      sum_by-cons (λ (own : List ℕ). get_or own (word_place kind t) 0) (own_moved tags moves c) (map (own_moved tags moves) cpus),
+      sum_by-cons (λ cpu. moved_word moves cpu kind t) c cpus,
+      word_here tags moves c kind t h,
+      sum_here tags moves kind t h cpus,
+    )
 
 pub total_here : (cpus tags : ℕ) (moves : List Move) (kind : Kind) (t : ℕ) → t < tags → total_of (words_moved cpus tags moves) kind t ≡ total_moved cpus moves kind t
 unfolding words_moved

@@ -1,5 +1,5 @@
 -- What a schedule prints of the moves so far.
-use Rattle.std.specs.Prelude.{◌≡◌, ◌<◌, false, ℕ, List, [], ◌∷◌, ◌++◌, length, map, sum_by, codes, decimal}
+use Rattle.std.specs.Prelude.{◌≡◌, ◌<◌, false, ℕ, List, ◌++◌, length, map, sum_by, codes, decimal}
 use Rattle.std.specs.List.{range_with_len, flat_map}
 use Rattle.tag_model.specs.declared.shape.Shape.{Shape}
 use Rattle.tag_model.specs.declared.state.Kind.{Kind}

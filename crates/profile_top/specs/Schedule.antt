@@ -1,13 +1,8 @@
 -- What a schedule means: a fold over its lines that keeps the machine, the moves of all steps so far and the text so far. It has no words: a word is the sum of the moves on it.
 use Rattle.tag_section.specs.Section.{Section}
-use Rattle.std.specs.Prelude.{IfSome, ◌≡◌, ℕ, zero, suc, ◌+◌, ◌<◌, ◌≤◌, ◌==◌, nat_lt, Bool, Option, Some, None, Result, Ok, Err, List, [], ◌∷◌, ◌++◌, length, map, sum_by, slice_set, if◌then◌else◌, codes, decimal, ⊤}
-use Rattle.std.specs.List.{range_with_len, flat_map}
+use Rattle.std.specs.Prelude.{IfSome, ◌≡◌, ℕ, zero, suc, ◌+◌, ◌<◌, ◌≤◌, nat_lt, Option, Some, None, Result, Ok, Err, List, [], ◌∷◌, ◌++◌, length, slice_set, if◌then◌else◌, ⊤}
 use Rattle.tag_model.specs.declared.shape.Shape.{Shape}
-use Rattle.tag_model.specs.declared.state.Kind.{Kind}
-use Rattle.tag_model.specs.declared.state.Kind.TheVariants.{Bytes, Calls}
-use Rattle.tag_model.specs.Wrap.{wrap}
-use Rattle.tag_model.specs.Moves.{Move, moved_word}
-use Rattle.tag_section.specs.Section.{section_at}
+use Rattle.tag_model.specs.Moves.{Move}
 use Rattle.core_steps.specs.declared.op.StepRefused.{StepRefused}
 use Rattle.core_steps.specs.declared.op.Actor.{Actor}
 use Rattle.core_steps.specs.declared.op.Actor.TheVariants as actor

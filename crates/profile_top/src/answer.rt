@@ -8,14 +8,13 @@ ghost use Rattle.trace.specs.StepReading.{steps_of};
 ghost use Rattle.trace.specs.TraceReading.{trace_of};
 ghost use Rattle.profile_top.specs.Answers.{Gives, refusal_text, refused, ok_text, all_well, line_with, is_managers_actor, is_managers, managers_line, not_built, step_built, step_read, is_schedule, steps_checked, trace_checked, answer_in};
 
+use crate::number::write_number;
+use crate::schedule::run_schedule;
 use round_check::check_rounds;
 use std::alloc::{AllocError, Global};
 use tag_section::Sections;
 use text_form::{next_line, word_at};
-use trace::{read_steps, read_trace, Code, StepAct, StepActor, StepLine, Steps, TextError};
-
-use crate::number::write_number;
-use crate::schedule::run_schedule;
+use trace::{Code, StepAct, StepActor, StepLine, Steps, TextError, read_steps, read_trace};
 
 /// The most bytes of an input.
 pub const INPUT_LIMIT: usize = 4_194_304;
@@ -50,12 +49,7 @@ fn write_refusal(
 }
 
 /// The line is refused.
-fn refusal(
-    alloc: Global,
-    sections: &Sections,
-    line: u32,
-    code: Code,
-) -> Result<Answer, AllocError>
+fn refusal(alloc: Global, sections: &Sections, line: u32, code: Code) -> Result<Answer, AllocError>
     ensures { IfOk result (λ answer. Gives answer (refused (names_of sections.now) (line, code))) }
 {
     let mut text = Vec::new(alloc);

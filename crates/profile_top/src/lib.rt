@@ -10,4 +10,3 @@ mod still;
 
 pub use answer::INPUT_LIMIT;
 pub use still::memprof_still;
-

@@ -11,15 +11,14 @@ ghost use Rattle.tag_section.specs.Section.{section_at};
 ghost use Rattle.std.specs.List.{AllByRecursion};
 ghost use Rattle.profile_top.specs.Printed.{kernel_len, rows_below, cpu_text, words_text, allocinfo_text, IsKernelRow};
 
+use crate::act::{Act, ActError, act_of, code_of};
+use crate::number::write_number;
 use allocinfo::{Row, print_rows};
 use core_steps::machine::Core;
 use core_steps::op::{Actor, Op, QueueError};
 use std::alloc::{AllocError, Global};
 use tag_section::Sections;
 use trace::{Code, StepLine, TextError};
-
-use crate::act::{Act, ActError, act_of, code_of};
-use crate::number::write_number;
 
 /// Queues the op.
 fn play_do(core: &mut Core, actor: Actor, op: Op) -> Result<(), ActError>

@@ -5,13 +5,12 @@ ghost use Rattle.trace.specs.StepForm.{AreSteps};
 ghost use Rattle.profile_top.specs.Schedule.{shape_of, schedule_of};
 ghost use Rattle.profile_top.specs.Answers.{Prints};
 
+use crate::play::play;
 use core_steps::machine::Core;
 use std::alloc::Global;
 use tag_model::limits::KERNEL_TAGS;
 use tag_model::shape::Shape;
 use trace::{Steps, TextError};
-
-use crate::play::play;
 
 /// The sizes of a schedule's machine. No frame and no vector is used.
 fn shape_of(steps: &Steps) -> Shape
@@ -38,7 +37,13 @@ pub(crate) fn run_schedule(alloc: Global, steps: &Steps) -> Result<Vec<u8>, Text
         Err(error) => return Err(TextError::Memory(error)),
     };
     let mut out = Vec::new(alloc);
-    if let Err(error) = play(alloc, &mut core, &steps.sections, steps.body.as_slice(), &mut out) {
+    if let Err(error) = play(
+        alloc,
+        &mut core,
+        &steps.sections,
+        steps.body.as_slice(),
+        &mut out,
+    ) {
         return Err(error);
     }
     Ok(out)

@@ -8,10 +8,9 @@ ghost use Rattle.outside.specs.Bytes.{AppendsPrefix};
 ghost use Rattle.profile_top.specs.declared.answer.Mode.{Mode};
 ghost use Rattle.profile_top.specs.Answers.{mode_word, mode_of, answer_of, Served, ServedInPart};
 
-use outside::{read_all, write_all, ReadError, Sink, Source};
+use crate::answer::{INPUT_LIMIT, Mode, answer_input};
+use outside::{ReadError, Sink, Source, read_all, write_all};
 use std::alloc::Global;
-
-use crate::answer::{answer_input, Mode, INPUT_LIMIT};
 
 fn mode_word(word: &[u8]) -> Option<Mode>
     ensures { result ≡ mode_word word.now }

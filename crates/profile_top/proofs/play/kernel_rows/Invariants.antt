@@ -1,4 +1,4 @@
-use Rattle.std.proofs.Common.{◌≡◌, ℕ, List, take, All}
+use Rattle.std.proofs.Common.{◌≡◌, ℕ, List, All}
 use Rattle.profile_top.specs.Printed.{Setting, rows_below, IsKernelRow}
 use Rattle.profile_top.specs.Schedule.{Played, Shows}
 use Rattle.profile_top.proofs.play.kernel_rows.Given as goal

@@ -1,5 +1,5 @@
-use Rattle.std.proofs.Common.{refl, length}
-use Rattle.profile_top.proofs.Stepping.{reaches_line, reaches_refused, reaches_end, sizes_kept}
+use Rattle.std.proofs.Common.{refl}
+use Rattle.profile_top.proofs.Stepping.{reaches_line, sizes_kept}
 use Rattle.profile_top.proofs.play.play.Goals as goal
 
 pub loop-line-preserved : goal.loop-line-preserved

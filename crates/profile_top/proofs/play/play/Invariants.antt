@@ -1,4 +1,4 @@
-use Rattle.std.proofs.Common.{◌≡◌, ℕ, List, drop}
+use Rattle.std.proofs.Common.{drop}
 use Rattle.profile_top.specs.Schedule.{Played, Shows, SameSizes, setting}
 use Rattle.profile_top.proofs.Stepping.{Reaches}
 use Rattle.profile_top.proofs.play.play.Given as goal

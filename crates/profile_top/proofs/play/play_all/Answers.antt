@@ -1,15 +1,15 @@
-use Rattle.std.proofs.Common.{arith, ◌+◌, None}
+use Rattle.std.proofs.Common.{arith, None}
 use Rattle.core_steps.specs.StepsLeft.{steps_left}
 use Rattle.profile_top.specs.Schedule.{asked}
-use Rattle.profile_top.proofs.Stepping.{same_sizes, sizes_kept, goes_first, goes_on, goes_err, goes_end, some_left}
+use Rattle.profile_top.proofs.Stepping.{sizes_kept, goes_on, goes_err, goes_end, some_left}
 use Rattle.profile_top.proofs.play.play_all.Goals as goal
 
 pub loop-actor-preserved : goal.loop-actor-preserved
 loop-actor-preserved c = record {
   goes = λ s text p shows.
-    let g = c.loop-actor.invariant.goes s text p shows in
-        goes_on s c.args.actor c.loop-actor.core c.play_step.new.core text (steps_left c.loop-actor.core c.args.actor) (steps_left c.play_step.new.core c.args.actor) (asked c.args.actor None p) p _ c.in_default.field-0
-        (omega (arith, c.in_default.ensures.left)) g (c.in_default.ensures.meaning s text g.played g.shows);
+      let g = c.loop-actor.invariant.goes s text p shows in
+      goes_on s c.args.actor c.loop-actor.core c.play_step.new.core text (steps_left c.loop-actor.core c.args.actor) (steps_left c.play_step.new.core c.args.actor) (asked c.args.actor None p) p _ c.in_default.field-0
+      (omega (arith, c.in_default.ensures.left)) g (c.in_default.ensures.meaning s text g.played g.shows);
   sizes = sizes_kept c.args.core.now c.loop-actor.core c.play_step.new.core c.loop-actor.invariant.sizes c.in_default.ensures.sizes;
 }
 

@@ -11,9 +11,9 @@ loop-step-init c = record {
 pub loop-step-preserved : goal.loop-step-preserved
 loop-step-preserved c = record {
   goes = λ s text p shows.
-    let g = c.loop-step.invariant.goes s text p shows in
-        goes_on s c.args.actor c.loop-step.core c.play_step.new.core text (c.args.count - c.loop-step._step) (c.args.count - (c.loop-step._step + 1)) c.args.count p _ c.in_default.field-0 (omega arith) g
-        (c.in_default.ensures.meaning s text g.played g.shows);
+      let g = c.loop-step.invariant.goes s text p shows in
+      goes_on s c.args.actor c.loop-step.core c.play_step.new.core text (c.args.count - c.loop-step._step) (c.args.count - (c.loop-step._step + 1)) c.args.count p _ c.in_default.field-0 (omega arith) g
+      (c.in_default.ensures.meaning s text g.played g.shows);
   sizes = sizes_kept c.args.core.now c.loop-step.core c.play_step.new.core c.loop-step.invariant.sizes c.in_default.ensures.sizes;
 }
 

@@ -1,4 +1,4 @@
-use Rattle.std.proofs.Common.{◌≡◌, ◌++◌, ℕ, List}
+use Rattle.std.proofs.Common.{◌≡◌, ◌++◌}
 use Rattle.profile_top.specs.Printed.{Setting, words_text}
 use Rattle.profile_top.specs.Schedule.{Played, Shows}
 use Rattle.profile_top.proofs.play.play_words.Given as goal
