@@ -1,5 +1,5 @@
 -- What holds of every book, after one of its entries was changed, put at the end or taken out.
-use Rattle.std.proofs.Common.{◌≡◌, ◌≢◌, ℕ, ◌+◌, ◌<◌, ◌≤◌, Bool, set, List, [], ◌∷◌, ◌++◌, length, get_or, slice_get, filter, All, AllPairs, refl, sym, ap, ◌∙◌, subst, arith, ⊎_elim}
+use Rattle.std.proofs.Common.{◌≡◌, ◌≢◌, ℕ, ◌<◌, ◌≤◌, Bool, set, List, [], ◌∷◌, ◌++◌, length, get_or, slice_get, filter, All, AllPairs, sym, ap, ◌∙◌, subst, arith, ⊎_elim}
 use Rattle.std.proofs.lemmas.List.{length-set, length_push, get_or-set_same, get_or-set_other, get_or_default}
 use Rattle.std.proofs.lemmas.List.Elements.{All-set, All-push, All-filter}
 use Rattle.std.proofs.lemmas.List.Quantifiers.{all_pairs_push}
@@ -9,7 +9,7 @@ use Rattle.std.proofs.lemmas.Bool.{cases_eq}
 use Rattle.module_area.specs.declared.entry.Entry.{Entry}
 use Rattle.module_area.specs.declared.entry.State.TheVariants.{Loaded}
 use Rattle.module_area.specs.declared.book.TheConstants.{BOOK_LIMIT}
-use Rattle.module_area.specs.Entries.{Covers, IsFree, AreApart, IsLoadedAs, entry_of, with_entry}
+use Rattle.module_area.specs.Entries.{IsFree, AreApart, IsLoadedAs, entry_of, with_entry}
 use Rattle.module_area.proofs.EntryLemmas.{id_at, set_at_id}
 use Rattle.module_area.specs.Area.{Area, LiesIn, IsLeastStart, DifferIfLoaded, IsBook}
 

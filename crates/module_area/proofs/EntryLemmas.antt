@@ -1,5 +1,5 @@
 -- Entries found by a test, and lists of entries with one of them changed.
-use Rattle.std.proofs.Common.{◌≡◌, ◌≢◌, ℕ, suc, ◌+◌, ◌<◌, ◌≤◌, ◌==◌, Bool, true, false, cond, set, List, [], ◌∷◌, length, get_or, slice_get, map, position, Option, Some, None, IsSome, All, AllPairs, Contains, refl, sym, ap, ◌∙◌, subst, arith, ⊎_elim}
+use Rattle.std.proofs.Common.{◌≡◌, ◌≢◌, ℕ, suc, ◌<◌, ◌==◌, Bool, true, false, cond, set, List, [], ◌∷◌, length, get_or, slice_get, position, Some, None, IsSome, All, AllPairs, Contains, sym, ap, ◌∙◌, subst, arith, ⊎_elim}
 use Rattle.std.specs.List.{find, position_or_len}
 use Rattle.std.proofs.lemmas.List.{same_lists, length-set, length-map, get_or-map, get_or-set_same, get_or-set_other, get_or_default}
 use Rattle.std.proofs.lemmas.List.Folds.{find_at}
@@ -76,7 +76,7 @@ set_at_id entries id k entry change rising below here same_id =
     (λ differs.
     let here_d : get_or entries k d ≡ entry = get_or_default entries k d entry below ∙ sym here in
     let id_here : (get_or entries k d).id ≡ id = ap (λ (e : Entry). e.id) here_d ∙ same_id in
-    let other_id : (get_or entries j d).id ≢ id = λ e. 
+    let other_id : (get_or entries j d).id ≢ id = λ e.
     ⊎_elim (λ same. differs same)
     (⊎_elim (λ less. absurd (lt_irrefl (rising j k d less below) (e ∙ sym id_here)))
     (λ more. absurd (lt_irrefl (rising k j d more inside) (id_here ∙ sym e)))) (cases_order j k) in

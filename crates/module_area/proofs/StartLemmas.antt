@@ -1,9 +1,9 @@
 -- The search for the least start: where it may stop, and how far it may go on.
-use Rattle.std.proofs.Common.{◌≡◌, ℕ, ◌+◌, ◌<◌, ◌≤◌, Bool, true, false, List, length, Some, None, All, Contains, sym, ap, ◌∙◌, subst, arith, ⊎_elim}
+use Rattle.std.proofs.Common.{◌≡◌, ℕ, ◌+◌, ◌<◌, ◌≤◌, true, false, List, Some, None, All, Contains, subst, arith, ⊎_elim}
 use Rattle.std.specs.List.{find}
 use Rattle.std.proofs.lemmas.Bool.{and_parts, and_from, both_ways, cases_lt, ltb-true, lt-ltb}
 use Rattle.module_area.specs.declared.entry.Entry.{Entry}
-use Rattle.module_area.specs.Entries.{Covers, IsFree, IsMet, meets}
+use Rattle.module_area.specs.Entries.{IsFree, IsMet, meets}
 use Rattle.module_area.specs.Area.{Area, LiesIn, IsLeastStart, HasNoRoom, IsBook}
 use Rattle.module_area.proofs.EntryLemmas.{find_some, find_none}
 

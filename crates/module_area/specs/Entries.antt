@@ -1,5 +1,5 @@
 -- Entries of modules, and the tags in their ranges.
-use Rattle.std.specs.Prelude.{ℕ, ◌≡◌, ◌≢◌, ◌+◌, ◌-◌, ◌<◌, ◌≤◌, ◌==◌, Bool, false, ◌&&◌, not, nat_le, nat_lt, if◌then◌else◌, List, Option, Any, map, filter}
+use Rattle.std.specs.Prelude.{ℕ, ◌≡◌, ◌+◌, ◌-◌, ◌<◌, ◌≤◌, ◌==◌, Bool, false, ◌&&◌, not, nat_le, nat_lt, if◌then◌else◌, List, Option, Any, map, filter}
 use Rattle.std.specs.List.{find}
 use Rattle.std.specs.Option.{option_map}
 use Rattle.module_area.specs.declared.entry.Entry.{Entry}

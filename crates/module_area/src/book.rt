@@ -56,7 +56,8 @@ impl Book {
     /// A book of an area of `tags` tags from `first` on, with no entry.
     pub fn new(alloc: Global, first: u32, tags: u32) -> Result<Book, AllocError>
         requires { first + tags ≤ TAG_LIMIT }
-        ensures { IfOk result (λ book. book ≡ record { entries = []; first = first; tags = tags }) }
+        ensures empty { IfOk result (λ book. book ≡ record { entries = []; first = first; tags = tags }) }
+        ensures formed { IfOk result (λ book. IsBook book) }
     {
         Ok(Book {
             entries: Vec::with_capacity(alloc, BOOK_LIMIT)?,
@@ -138,8 +139,10 @@ impl Book {
         requires above_zero { 0 < id }
         requires rising { All (λ entry. entry.id < id) self.old.entries }
         ensures reserved { IfOk result (λ start. IsLeastStart self.old length start
-            × (self.new ≡ record self.old { entries = self.old.entries
-            ++ record { id = id; section = section; start = start; length = length; state = Loaded; users = 0 } ∷ [] })) }
+            × (self.new ≡ record self.old {
+              entries = self.old.entries
+                  ++ record { id = id; section = section; start = start; length = length; state = Loaded; users = 0 } ∷ [];
+            })) }
 
         ensures same_name { IsErrOf result AreaError.SameName
             ↔ Any (IsLoadedAs section) self.old.entries }
@@ -262,8 +265,10 @@ impl Book {
         requires new_section { All (λ entry. ¬ IsLoadedAs section entry) self.old.entries }
         requires least { IsLeastStart self.old size start }
         ensures formed { IsBook self.new }
-        ensures after { self.new ≡ record self.old { entries = self.old.entries
-            ++ record { id = id; section = section; start = start; length = size; state = Loaded; users = 0 } ∷ [] } }
+        ensures after { self.new ≡ record self.old {
+          entries = self.old.entries
+              ++ record { id = id; section = section; start = start; length = size; state = Loaded; users = 0 } ∷ [];
+        } }
     {
         self.entries
             .push(Entry {

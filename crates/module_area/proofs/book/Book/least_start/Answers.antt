@@ -1,4 +1,4 @@
-use Rattle.std.proofs.Common.{◌≡◌, ◌+◌, ◌<◌, ◌≤◌, Some, sym, ap, ◌∙◌, arith}
+use Rattle.std.proofs.Common.{sym, ap, ◌∙◌, arith}
 use Rattle.module_area.specs.Area.{Area}
 use Rattle.module_area.proofs.StartLemmas.{found, free_from_none, met_before}
 use Rattle.module_area.proofs.book.Book.least_start.Goals as goal

@@ -1,4 +1,4 @@
-use Rattle.std.proofs.Common.{◌≡◌, ◌==◌, not, filter, rules, sym, ap, subst, ◌∙◌, List, arith}
+use Rattle.std.proofs.Common.{◌≡◌, ◌==◌, not, rules, sym, ap, subst, ◌∙◌, List, arith}
 use Rattle.std.proofs.lemmas.Fn.{filter_same}
 use Rattle.module_area.specs.declared.entry.Entry.{Entry}
 use Rattle.module_area.specs.Entries.{without_entry}
@@ -10,9 +10,10 @@ pub invariant_of-self : goal.invariant_of-self
 invariant_of-self c =
     let left : c.retain.new.self.items ≡ without_entry c.args.id c.self.inside.entries.items =
     filter_same _ (λ (entry : Entry). not (entry.id == c.args.id)) _ (λ x b f' k. search rules) _ _ c.retain.ensures.filtered in
-    let of : List Entry → Area = λ es. record { entries = es; first = c.self.inside.first; tags = c.self.inside.tags } in
-    (subst (λ es. IsBook (of es)) (sym left) (IsBook-filter _ _ _ c.self.invariant.0 (λ entry. not (entry.id == c.args.id))),
-    omega (arith, c.retain.ensures.capacity, c.self.invariant.1))
+    let of : List Entry → Area = λ es. record { entries = es; first = c.self.inside.first; tags = c.self.inside.tags } in (
+      subst (λ es. IsBook (of es)) (sym left) (IsBook-filter _ _ _ c.self.invariant.0 (λ entry. not (entry.id == c.args.id))),
+      omega (arith, c.retain.ensures.capacity, c.self.invariant.1),
+    )
 
 pub returns-clause-after : goal.returns-clause-after
 returns-clause-after c =
