@@ -1,0 +1,45 @@
+-- The module area and its entries.
+use Rattle.std.specs.Prelude.{ℕ, ◌≡◌, ◌≢◌, ◌+◌, ◌<◌, ◌≤◌, List, length, All, AllPairs}
+use Rattle.module_area.specs.declared.entry.Entry.{Entry}
+use Rattle.module_area.specs.declared.entry.State.TheVariants.{Loaded}
+use Rattle.module_area.specs.declared.book.TheConstants.{BOOK_LIMIT, TAG_LIMIT}
+use Rattle.module_area.specs.Entries.{IsFree, IsMet, AreApart}
+
+-- a book: its entries, the area's first tag, and how many tags the area has
+pub record Area : Type 0 where
+  pub entries : List Entry
+  pub first : ℕ
+  pub tags : ℕ
+
+-- the `size` tags from `start` on lie in the area
+abbrev pub LiesIn : Area → ℕ → ℕ → Type 0
+LiesIn area start size = (area.first ≤ start) × (start + size ≤ area.first + area.tags)
+
+-- the least start in the area whose `size` tags lie in it and are covered by no entry, loaded or dead
+pub record IsLeastStart (area : Area) (size start : ℕ) : Type 0 where
+  pub lies : LiesIn area start size
+  pub free : IsFree area.entries start size
+  pub least : (other : ℕ) → other < start → LiesIn area other size → IsMet area.entries other size
+
+-- there is no start in the area whose `size` tags lie in it and are covered by no entry
+abbrev pub HasNoRoom : Area → ℕ → Type 0
+HasNoRoom area size = (start : ℕ) → LiesIn area start size → IsMet area.entries start size
+
+-- there are as many entries as may be
+abbrev pub IsFull : Area → Type 0
+IsFull area = length area.entries ≡ BOOK_LIMIT
+
+-- two loaded entries are of different sections
+abbrev pub DifferIfLoaded : Entry → Entry → Type 0
+DifferIfLoaded one other = one.state ≡ Loaded → other.state ≡ Loaded → one.section ≢ other.section
+
+-- what holds of every book
+pub record IsBook (area : Area) : Type 0 where
+  pub few : length area.entries ≤ BOOK_LIMIT
+  pub above_zero : All (λ entry. 0 < entry.id) area.entries
+  pub rising : AllPairs (λ one other. one.id < other.id) area.entries
+  pub some_tags : All (λ entry. 1 ≤ entry.length) area.entries
+  pub in_area : All (λ entry. LiesIn area entry.start entry.length) area.entries
+  pub apart : AllPairs AreApart area.entries
+  pub loaded_once : AllPairs DifferIfLoaded area.entries
+  pub small : area.first + area.tags ≤ TAG_LIMIT
