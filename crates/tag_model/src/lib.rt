@@ -7,3 +7,5 @@ pub mod limits;
 pub mod rows;
 pub mod shape;
 pub mod state;
+#[cfg(test)]
+mod tests;
