@@ -20,9 +20,9 @@ left_advanced : (op : Op) (ops : List Op) (done : ℕ) → done < step_count op 
 unfolding left_of
 left_advanced op ops done within = let all = sum_by-cons step_count op ops in by_test (done + 1 == step_count op) refl
   where
-  by_test : (last : Bool) → (done + 1 == step_count op) ≡ last → sum_by step_count (op ∷ ops) - done ≡ left_of (advanced (op ∷ ops) done) + 1
-  by_test true e = let f : done + 1 ≡ step_count op = grind (arith, nat_tests) in rw e (omega (arith, sum_by-cons step_count op ops))
-  by_test false e = rw e (omega (arith, sum_by-cons step_count op ops))
+    by_test : (last : Bool) → (done + 1 == step_count op) ≡ last → sum_by step_count (op ∷ ops) - done ≡ left_of (advanced (op ∷ ops) done) + 1
+    by_test true e = let f : done + 1 ≡ step_count op = grind (arith, nat_tests) in rw e (omega (arith, sum_by-cons step_count op ops))
+    by_test false e = rw e (omega (arith, sum_by-cons step_count op ops))
 
 left_stepped : (words : List (List ℕ)) (m : Machine) (cpu : ℕ) (ops : List Op) (done : ℕ) → cpu < length m.waiting → CanStep m words cpu ops done → refusal_in m ops done ≡ None
     → left_of (record { ops = ops; done = done }) ≡ left_of (waiting_at (stepped_by m cpu ops done) cpu) + 1
@@ -34,9 +34,9 @@ left_stepped words m cpu (op ∷ ops) done below can none =
 left_after : (s : CoreState) (cpu : ℕ) → IsCore s → refusal_of s.machine cpu ≡ None → cpu_steps_left s.machine cpu ≡ cpu_steps_left (after_step s.machine cpu) cpu + 1
 unfolding left_of
 left_after s cpu core none = elim (cases_lt cpu (length s.machine.waiting)) [
-    | inl below ↦ left_stepped s.words s.machine cpu (waiting_at s.machine cpu).ops (waiting_at s.machine cpu).done below ((can_go s cpu core).step below) none
-    | inr past ↦ let bad : refusal_of s.machine cpu ≡ Some NoStep = rw (get_or_past s.machine.waiting cpu nothing_waits past) refl in cc
-    ]
+  | inl below ↦ left_stepped s.words s.machine cpu (waiting_at s.machine cpu).ops (waiting_at s.machine cpu).done below ((can_go s cpu core).step below) none
+  | inr past ↦ let bad : refusal_of s.machine cpu ≡ Some NoStep = rw (get_or_past s.machine.waiting cpu nothing_waits past) refl in cc
+]
 
 -- what `go` leaves, by its answer
 pub left_lists : (s : CoreState) (cpu : ℕ) (m : Machine) (words : List (List ℕ)) (r : Result Event StepRefused) → IsCore s → Answers (refusal_of s.machine cpu) r
@@ -53,9 +53,9 @@ none_waits words m cpu (op ∷ ops) done can h = absurd (omega (arith, sum_by-co
 pub left_none : (s : CoreState) (cpu : ℕ) → IsCore s → cpu_steps_left s.machine cpu ≡ 0 → (waiting_at s.machine cpu).ops ≡ []
 unfolding left_of
 left_none s cpu core h = elim (cases_lt cpu (length s.machine.waiting)) [
-    | inl below ↦ none_waits s.words s.machine cpu (waiting_at s.machine cpu).ops (waiting_at s.machine cpu).done ((can_go s cpu core).step below) h
-    | inr past ↦ ap (λ (w : Waiting). w.ops) (get_or_past s.machine.waiting cpu nothing_waits past)
-    ]
+  | inl below ↦ none_waits s.words s.machine cpu (waiting_at s.machine cpu).ops (waiting_at s.machine cpu).done ((can_go s cpu core).step below) h
+  | inr past ↦ ap (λ (w : Waiting). w.ops) (get_or_past s.machine.waiting cpu nothing_waits past)
+]
 
 pub left_zero : (w : Waiting) → w.ops ≡ [] → sum_by step_count w.ops - w.done ≡ 0
 left_zero w e = rw e (omega arith)

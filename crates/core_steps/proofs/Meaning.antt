@@ -37,7 +37,6 @@ wrap_lowered : (w n : ℕ) → wrap_minus (w + 0) n ≡ wrap_minus w n
 wrap_lowered w n = omega arith
 
 module _ (cpus tags : ℕ) (moves : List Move) (cpu : ℕ) (below : cpu < cpus) where
-
   own : List ℕ
   own = get_or (words_moved cpus tags moves) cpu []
 
@@ -91,25 +90,25 @@ unfolding words_moved
 core_of_fresh shape kernel_len =
     ap (λ (w : List (List ℕ)). record { shape = shape; kernel_len = kernel_len; machine = fresh_machine shape.cpus; words = w })
     (same_lists _ _ (rw (length-replicate, length-map-range_with_len) refl) (λ c d l.
-      let below : c < shape.cpus = omega (arith, length-replicate shape.cpus (replicate {A = ℕ} (2 * shape.tags) 0)) in
-      get_or-replicate shape.cpus c (replicate (2 * shape.tags) 0) d below
-      ∙ sym (get_or-map-range_with_len (own_moved shape.tags []) 0 shape.cpus c c d below (omega arith) ∙ no_words c)))
+    let below : c < shape.cpus = omega (arith, length-replicate shape.cpus (replicate {A = ℕ} (2 * shape.tags) 0)) in
+    get_or-replicate shape.cpus c (replicate (2 * shape.tags) 0) d below
+    ∙ sym (get_or-map-range_with_len (own_moved shape.tags []) 0 shape.cpus c c d below (omega arith) ∙ no_words c)))
   where
-  no_words : (c : ℕ) → own_moved shape.tags [] c ≡ replicate (2 * shape.tags) 0
-  no_words c = same_lists _ _ (rw (length-replicate, length-map-range_with_len) refl) (λ p d l.
-      let below : p < 2 * shape.tags = omega (arith, length-map-range_with_len (λ q. moved_word [] c (kind_at q) (q / 2)) 0 (2 * shape.tags)) in
-      get_or-map-range_with_len (λ q. moved_word [] c (kind_at q) (q / 2)) 0 (2 * shape.tags) p p d below (omega arith) ∙ sym (get_or-replicate (2 * shape.tags) p 0 d below))
+    no_words : (c : ℕ) → own_moved shape.tags [] c ≡ replicate (2 * shape.tags) 0
+    no_words c = same_lists _ _ (rw (length-replicate, length-map-range_with_len) refl) (λ p d l.
+        let below : p < 2 * shape.tags = omega (arith, length-map-range_with_len (λ q. moved_word [] c (kind_at q) (q / 2)) 0 (2 * shape.tags)) in
+        get_or-map-range_with_len (λ q. moved_word [] c (kind_at q) (q / 2)) 0 (2 * shape.tags) p p d below (omega arith) ∙ sym (get_or-replicate (2 * shape.tags) p 0 d below))
 
 -- what `go` leaves, by its answer, where the words are the sums of moves
 pub moved_after : (s : CoreState) (cpu : ℕ) (next : CoreState) (r : Result Event StepRefused) (moves : List Move) → IsCore s → MatchOption (refusal_of s.machine cpu) (r ≡ Ok Stepped) (λ e. r ≡ Err e)
     → OnOk r (next ≡ stepped s (actor.Cpu cpu)) → HasMoved s moves → OnOk r (next ≡ moved_on s (actor.Cpu cpu) moves)
 moved_after s cpu next (Err e) moves core answer ok has = tt
 moved_after s cpu next (Ok e) moves core answer ok has = elim (cases_lt cpu s.shape.cpus) [
-    | inl below ↦
+  | inl below ↦
       ok ∙ ap (λ (x : CoreState). stepped x (actor.Cpu cpu)) has
       ∙ core_of_step s.shape s.kernel_len s.machine moves cpu (subst IsCore has core) below
-    | inr past ↦ let none = refusal_none s cpu e answer in let bad = nothing_past s.machine cpu (omega (arith, core.machine.waiting)) in cc
-    ]
+  | inr past ↦ let none = refusal_none s cpu e answer in let bad = nothing_past s.machine cpu (omega (arith, core.machine.waiting)) in cc
+]
 
 pub moved_lists : (s : CoreState) (cpu : ℕ) (hands : List (Option Hand)) (places : List Held) (waiting : List Waiting) (words : List (List ℕ)) (r : Result Event StepRefused) (moves : List Move)
     → IsCore s → Answers (refusal_of s.machine cpu) r
@@ -118,7 +117,7 @@ pub moved_lists : (s : CoreState) (cpu : ℕ) (hands : List (Option Hand)) (plac
 moved_lists s cpu hands places waiting words r moves core answer ok has =
     moved_after s cpu (record s { machine = machine_of hands places waiting; words = words }) r moves core answer (both r ok) has
   where
-  both : (q : Result Event StepRefused) → OnOk q ((machine_of hands places waiting ≡ after_step s.machine cpu) × (words ≡ words_after_step s.machine s.words cpu))
-      → OnOk q (record s { machine = machine_of hands places waiting; words = words } ≡ stepped s (actor.Cpu cpu))
-  both (Ok e) f = ap (λ (m : Machine). record s { machine = m; words = words }) f.0 ∙ ap (λ (w : List (List ℕ)). record s { machine = after_step s.machine cpu; words = w }) f.1
-  both (Err e) f = tt
+    both : (q : Result Event StepRefused) → OnOk q ((machine_of hands places waiting ≡ after_step s.machine cpu) × (words ≡ words_after_step s.machine s.words cpu))
+        → OnOk q (record s { machine = machine_of hands places waiting; words = words } ≡ stepped s (actor.Cpu cpu))
+    both (Ok e) f = ap (λ (m : Machine). record s { machine = m; words = words }) f.0 ∙ ap (λ (w : List (List ℕ)). record s { machine = after_step s.machine cpu; words = w }) f.1
+    both (Err e) f = tt

@@ -45,15 +45,14 @@ kind_cases false kind = refl
 on_place : (m : Move) (p : ℕ) → is_on m.cpu (kind_at p) (p / 2) m ≡ (p == word_place m.kind m.tag)
 on_place m p = by_kind m.kind m.tag
   where
-  by_kind : (kind : Kind) (tag : ℕ) → ((m.cpu == m.cpu) && same_kind (kind_at p) kind && (tag == p / 2)) ≡ (p == word_place kind tag)
-  by_kind Bytes tag = rw (kind_cases (p % 2 == 0) Bytes) (grind (arith, nat_tests))
-  by_kind Calls tag = rw (kind_cases (p % 2 == 0) Calls) (grind (arith, nat_tests))
+    by_kind : (kind : Kind) (tag : ℕ) → ((m.cpu == m.cpu) && same_kind (kind_at p) kind && (tag == p / 2)) ≡ (p == word_place kind tag)
+    by_kind Bytes tag = rw (kind_cases (p % 2 == 0) Bytes) (grind (arith, nat_tests))
+    by_kind Calls tag = rw (kind_cases (p % 2 == 0) Calls) (grind (arith, nat_tests))
 
 off_cpu : (m : Move) (c : ℕ) (kind : Kind) (tag : ℕ) → c ≢ m.cpu → is_on c kind tag m ≡ false
 off_cpu m c kind tag ne = grind (arith, nat_tests)
 
 module _ (tags : ℕ) (moves : List Move) (m : Move) (within : word_place m.kind m.tag < 2 * tags) where
-
   place : ℕ
   place = word_place m.kind m.tag
 
@@ -74,18 +73,18 @@ module _ (tags : ℕ) (moves : List Move) (m : Move) (within : word_place m.kind
       get_or-map-range_with_len (λ q. moved_word (moves ++ m ∷ []) m.cpu (kind_at q) (q / 2)) 0 (2 * tags) p p d below (omega arith)
       ∙ elim (cases_eq p (word_place m.kind m.tag)) [
         | inl e ↦
-          let on : is_on m.cpu (kind_at p) (p / 2) m ≡ true = on_place m p ∙ grind (arith, nat_tests) in
-          let was : get_or (own_moved tags moves m.cpu) (word_place m.kind m.tag) 0 ≡ moved_word moves m.cpu (kind_at p) (p / 2) = ap (λ (q : ℕ). get_or (own_moved tags moves m.cpu) q 0) (sym e) ∙ own_word p 0 below in
-          let len : p < length (own_moved tags moves m.cpu) = omega (arith, length-map-range_with_len (λ q. moved_word moves m.cpu (kind_at q) (q / 2)) 0 (2 * tags)) in
-          moved_word_here moves m m.cpu (kind_at p) (p / 2) on
-          ∙ ap (λ (w : ℕ). wrap_minus (w + m.up) m.down) (sym was)
-          ∙ sym (ap (λ (q : ℕ). get_or (set (own_moved tags moves m.cpu) q (wrap_minus (get_or (own_moved tags moves m.cpu) (word_place m.kind m.tag) 0 + m.up) m.down)) p d) (sym e)
-                 ∙ get_or-set_same (own_moved tags moves m.cpu) p (wrap_minus (get_or (own_moved tags moves m.cpu) (word_place m.kind m.tag) 0 + m.up) m.down) d len)
+            let on : is_on m.cpu (kind_at p) (p / 2) m ≡ true = on_place m p ∙ grind (arith, nat_tests) in
+            let was : get_or (own_moved tags moves m.cpu) (word_place m.kind m.tag) 0 ≡ moved_word moves m.cpu (kind_at p) (p / 2) = ap (λ (q : ℕ). get_or (own_moved tags moves m.cpu) q 0) (sym e) ∙ own_word p 0 below in
+            let len : p < length (own_moved tags moves m.cpu) = omega (arith, length-map-range_with_len (λ q. moved_word moves m.cpu (kind_at q) (q / 2)) 0 (2 * tags)) in
+            moved_word_here moves m m.cpu (kind_at p) (p / 2) on
+            ∙ ap (λ (w : ℕ). wrap_minus (w + m.up) m.down) (sym was)
+            ∙ sym (ap (λ (q : ℕ). get_or (set (own_moved tags moves m.cpu) q (wrap_minus (get_or (own_moved tags moves m.cpu) (word_place m.kind m.tag) 0 + m.up) m.down)) p d) (sym e)
+            ∙ get_or-set_same (own_moved tags moves m.cpu) p (wrap_minus (get_or (own_moved tags moves m.cpu) (word_place m.kind m.tag) 0 + m.up) m.down) d len)
         | inr ne ↦
-          let off : is_on m.cpu (kind_at p) (p / 2) m ≡ false = on_place m p ∙ grind (arith, nat_tests) in
-          moved_word_there moves m m.cpu (kind_at p) (p / 2) off
-          ∙ sym (get_or-set_other (own_moved tags moves m.cpu) (word_place m.kind m.tag) p (wrap_minus (get_or (own_moved tags moves m.cpu) (word_place m.kind m.tag) 0 + m.up) m.down) d ne ∙ own_word p d below)
-        ])
+            let off : is_on m.cpu (kind_at p) (p / 2) m ≡ false = on_place m p ∙ grind (arith, nat_tests) in
+            moved_word_there moves m m.cpu (kind_at p) (p / 2) off
+            ∙ sym (get_or-set_other (own_moved tags moves m.cpu) (word_place m.kind m.tag) p (wrap_minus (get_or (own_moved tags moves m.cpu) (word_place m.kind m.tag) 0 + m.up) m.down) d ne ∙ own_word p d below)
+      ])
 
   pub moved_one : (cpus : ℕ) → m.cpu < cpus → words_moved cpus tags (moves ++ m ∷ [])
       ≡ set (words_moved cpus tags moves) m.cpu (set (own_moved tags moves m.cpu) (word_place m.kind m.tag) (wrap_minus (get_or (own_moved tags moves m.cpu) (word_place m.kind m.tag) 0 + m.up) m.down))
@@ -95,7 +94,7 @@ module _ (tags : ℕ) (moves : List Move) (m : Move) (within : word_place m.kind
       get_or-map-range_with_len (own_moved tags (moves ++ m ∷ [])) 0 cpus c c d below (omega arith)
       ∙ elim (cases_eq c m.cpu) [
         | inl e ↦
-          let len : m.cpu < length (map (own_moved tags moves) (range_with_len 0 cpus)) = omega (arith, length-map-range_with_len (own_moved tags moves) 0 cpus) in
-          rw e (own_here ∙ sym (get_or-set_same (map (own_moved tags moves) (range_with_len 0 cpus)) m.cpu _ d len))
+            let len : m.cpu < length (map (own_moved tags moves) (range_with_len 0 cpus)) = omega (arith, length-map-range_with_len (own_moved tags moves) 0 cpus) in
+            rw e (own_here ∙ sym (get_or-set_same (map (own_moved tags moves) (range_with_len 0 cpus)) m.cpu _ d len))
         | inr ne ↦ own_there c ne ∙ sym (get_or-set_other (map (own_moved tags moves) (range_with_len 0 cpus)) m.cpu c _ d ne ∙ get_or-map-range_with_len (own_moved tags moves) 0 cpus c c d below (omega arith))
-        ])
+      ])

@@ -3,9 +3,8 @@
 
 use outside::{StdSink, StdSource};
 use profile_top::memprof_still;
-use std::env;
-use std::io;
 use std::process::ExitCode;
+use std::{env, io};
 
 /// The status where memory ran out.
 const NO_MEMORY: u8 = 3;

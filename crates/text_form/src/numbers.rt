@@ -52,7 +52,7 @@ pub fn parse_below(word: &[u8], limit: u64) -> Option<u64>
 {
     match word {
         [] => None,
-        [b'0', _, ..] => None,
+        [b'0', _next, ..] => None,
         _ => match digits_value(word) {
             Some(value) if value < limit => Some(value),
             _ => None,

@@ -231,9 +231,9 @@ unfolding steps_of
 steps_of_formed text s read =
     IfOk-at_ok AreSteps read
     (given AreSteps (at 1 (first_line (lines_of text) (tail_of text))) _ (λ header.
-      skipped AreSteps (at 1 (need (is_word (codes "memprof-steps 1.0") header) code.Header)) _
-      (bound (λ r. AreSteps (steps_from r)) AreSteps _ (λ reading. Ok (steps_from reading)) (lines_in 2 (drop 1 (lines_of text)) (tail_of text) empty_reading IsReading-empty)
-      (λ reading formed. formed))))
+    skipped AreSteps (at 1 (need (is_word (codes "memprof-steps 1.0") header) code.Header)) _
+    (bound (λ r. AreSteps (steps_from r)) AreSteps _ (λ reading. Ok (steps_from reading)) (lines_in 2 (drop 1 (lines_of text)) (tail_of text) empty_reading IsReading-empty)
+    (λ reading formed. formed))))
 
 kernel_op : (sections : List Section) (o : StepOp) → length sections ≡ 1 → IsStepOp sections o → IsKernelOp o
 kernel_op sections (op.Open key section index size) one is = omega (arith, is.1.0)

@@ -63,14 +63,16 @@ step_on-requires c =
 pub returns-clause-moved : goal.returns-clause-moved
 unfolding before
 returns-clause-moved c = λ moves.
-    rw (← c.self.view_is,
-        written c.self.inside.hands.len c.step_on.new.hands c.self.inside.hands.items (omega arith),
-        written c.self.inside.places.len c.step_on.new.places c.self.inside.places.items (omega arith),
-        written c.self.inside.waiting.len c.step_on.new.waiting c.self.inside.waiting.items (omega arith),
-        written c.self.inside.words.len c.step_on.new.words c.self.inside.words.items (omega arith))
+    rw (
+      ← c.self.view_is,
+      written c.self.inside.hands.len c.step_on.new.hands c.self.inside.hands.items (omega arith),
+      written c.self.inside.places.len c.step_on.new.places c.self.inside.places.items (omega arith),
+      written c.self.inside.waiting.len c.step_on.new.waiting c.self.inside.waiting.items (omega arith),
+      written c.self.inside.words.len c.step_on.new.words c.self.inside.words.items (omega arith),
+    )
     (moved_lists (before c) c.args.cpu c.step_on.new.hands c.step_on.new.places c.step_on.new.waiting c.step_on.new.words c.step_on.result moves c.self.invariant
-      (rw (c.as_mut_slice.ensures.value, c.as_mut_slice-2.ensures.value, c.as_mut_slice-3.ensures.value) at c.step_on.ensures.answer)
-      (rw (c.as_mut_slice.ensures.value, c.as_mut_slice-2.ensures.value, c.as_mut_slice-3.ensures.value, c.as_mut_slice-4.ensures.value) at c.step_on.ensures.ok))
+    (rw (c.as_mut_slice.ensures.value, c.as_mut_slice-2.ensures.value, c.as_mut_slice-3.ensures.value) at c.step_on.ensures.answer)
+    (rw (c.as_mut_slice.ensures.value, c.as_mut_slice-2.ensures.value, c.as_mut_slice-3.ensures.value, c.as_mut_slice-4.ensures.value) at c.step_on.ensures.ok))
 
 pub returns-clause-left : goal.returns-clause-left
 unfolding before
@@ -80,5 +82,5 @@ returns-clause-left c =
       written c.self.inside.waiting.len c.step_on.new.waiting c.self.inside.waiting.items (omega arith),
     )
     (left_lists (before c) c.args.cpu (machine_of c.step_on.new.hands c.step_on.new.places c.step_on.new.waiting) c.step_on.new.words c.step_on.result c.self.invariant
-      (rw (c.as_mut_slice.ensures.value, c.as_mut_slice-2.ensures.value, c.as_mut_slice-3.ensures.value) at c.step_on.ensures.answer)
-      (rw (c.as_mut_slice.ensures.value, c.as_mut_slice-2.ensures.value, c.as_mut_slice-3.ensures.value, c.as_mut_slice-4.ensures.value) at c.step_on.ensures.ok))
+    (rw (c.as_mut_slice.ensures.value, c.as_mut_slice-2.ensures.value, c.as_mut_slice-3.ensures.value) at c.step_on.ensures.answer)
+    (rw (c.as_mut_slice.ensures.value, c.as_mut_slice-2.ensures.value, c.as_mut_slice-3.ensures.value, c.as_mut_slice-4.ensures.value) at c.step_on.ensures.ok))
