@@ -10,3 +10,6 @@ mod still;
 
 pub use answer::INPUT_LIMIT;
 pub use still::memprof_still;
+
+#[cfg(test)]
+mod tests;

@@ -1,0 +1,10 @@
+pub mod CutLemmas
+pub mod NumberLemmas
+pub mod LacksLemmas
+pub mod PlaceLemmas
+pub mod TagLemmas
+pub mod LineLemmas
+pub mod NewlineLemmas
+pub mod TextLemmas
+pub mod FaultLemmas
+pub mod BackLemmas

@@ -1,0 +1,121 @@
+use super::*;
+use outside::{MemSink, MemSource, Sink};
+use std::alloc::Global;
+use std::test::Fail;
+
+const ONE: &[u8] =
+    b"memprof-steps 1.0\nkernel\ntag mm/a.c 10 fa\ndo 0 open 1 kernel:0 4096\ngo 0 3\nprint\n";
+
+const HALF: &[u8] =
+    b"memprof-steps 1.0\nkernel\ntag mm/a.c 10 fa\ndo 0 open 1 kernel:0 4096\ngo 0 1\nprint\n";
+
+const EMPTY: &[u8] = b"memprof-steps 1.0\nkernel\ntag mm/a.c 10 fa\nprint\n";
+
+const HEAD: &[u8] = b"memprof-steps 1.0\nkernel\ntag mm/a.c 10 fa\n";
+
+const UNEVEN: &[u8] = b"memprof-steps 1.0\nkernel\ntag mm/a.c 10 fa\n\
+    do 0 open 1 kernel:0 8\ngo 0 all\ndo 0 split 1 3 2\ngo 0 1\n";
+
+const SHARED: &[u8] = b"memprof-trace 1.0\nkernel\ntag mm/slub.c 1 slab\n\
+    round\non 0 page 1 0\non 1 free 1\n";
+
+#[derive(Drop)]
+struct Outcome {
+    status: u8,
+    text: Vec<u8>,
+}
+
+fn serve(
+    alloc: Global,
+    words: &[&str],
+    input: &[u8],
+    failing_read: &[u64],
+    failing_write: &[u64],
+) -> Result<Outcome, Fail> {
+    let mut owned = Vec::new(alloc);
+    for word in words {
+        owned.push(String::from_str(alloc, word)?)?;
+    }
+    let mut source = MemSource::new(input.to_vec(alloc)?, failing_read.to_vec(alloc)?, 64);
+    let mut sink = MemSink::new(alloc, 1_000, failing_write.to_vec(alloc)?, 8)?;
+    let status = memprof_still(alloc, owned.as_slice(), &mut source, &mut sink);
+    let text = sink.taken().to_vec(alloc)?;
+    Ok(Outcome { status, text })
+}
+
+fn is_outcome(outcome: &Outcome, status: u8, text: &[u8]) -> bool {
+    outcome.status == status && outcome.text.as_slice() == text
+}
+
+#[test]
+fn inputs(rt: HostRuntime) -> Result<(), Fail> {
+    let header = b"allocinfo - version: 1.0\n#     <size>  <calls> <tag info>\n";
+    let rows: [(&str, &[u8], u8, &[u8]); 8] = [
+        (
+            "step",
+            EMPTY,
+            0,
+            b"           0        0 mm/a.c:10 func:fa \n",
+        ),
+        (
+            "step",
+            ONE,
+            0,
+            b"        4096        1 mm/a.c:10 func:fa \n",
+        ),
+        (
+            "step",
+            HALF,
+            0,
+            b"           0        1 mm/a.c:10 func:fa \n",
+        ),
+        ("step", UNEVEN, 1, b"line 7: uneven\n"),
+        ("step", b"", 1, b"line 1: header\n"),
+        ("check", HEAD, 0, b"ok lines 3\n"),
+        ("check", SHARED, 1, b"line 6: shared-key 1\n"),
+        (
+            "check",
+            b"memprof-steps 1.0\nkernel\n",
+            1,
+            b"line 3: empty\n",
+        ),
+    ];
+    for (word, input, status, text) in rows {
+        let seen = serve(rt.alloc(), &[word], input, &[], &[])?;
+        let mut wanted = Vec::new(rt.alloc());
+        if text.starts_with(b" ") {
+            wanted.extend_from_slice(header)?;
+        }
+        wanted.extend_from_slice(text)?;
+        assert!(rt; is_outcome(&seen, status, wanted.as_slice()), "{word}");
+    }
+    Ok(())
+}
+
+#[test]
+fn words(rt: HostRuntime) -> Result<(), Fail> {
+    let lines: [&[&str]; 5] = [&[], &["step", "x"], &["run"], &["Step"], &[""]];
+    for words in lines {
+        let seen = serve(rt.alloc(), words, ONE, &[0], &[0])?;
+        assert!(rt; is_outcome(&seen, 2, b""));
+    }
+    Ok(())
+}
+
+// The source gives 64 bytes a call, and the sink takes 8.
+#[test]
+fn faults(rt: HostRuntime) -> Result<(), Fail> {
+    for call in [0u64, 1] {
+        let seen = serve(rt.alloc(), &["step"], ONE, &[call], &[])?;
+        assert!(rt; is_outcome(&seen, 4, b""), "read {call}");
+    }
+    for (call, taken) in [
+        (0u64, b"".as_slice()),
+        (1, b"allocinf"),
+        (2, b"allocinfo - vers"),
+    ] {
+        let seen = serve(rt.alloc(), &["step"], ONE, &[], &[call])?;
+        assert!(rt; is_outcome(&seen, 5, taken), "write {call}");
+    }
+    Ok(())
+}
