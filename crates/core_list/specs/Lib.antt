@@ -1,0 +1,2 @@
+pub mod ListState
+pub mod Stages
