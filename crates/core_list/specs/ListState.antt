@@ -93,11 +93,13 @@ abbrev pub or_zero : Option ℕ → ℕ
 or_zero None = 0
 or_zero (Some n) = n
 
--- a module of so many tags is loaded, under the next id, at the least start
+-- what a module of so many tags gets: the next id, and the least start
+abbrev pub new_entry : ℕ → ℕ → ListState → Entry
+new_entry section size l = record { id = l.last_id + 1; section = section; start = or_zero (least_start l.area size); length = size; state = Loaded; users = 0 }
+
+-- the module is loaded
 abbrev pub loaded : ℕ → ℕ → ListState → ListState
-loaded section size l =
-    let entry = record { id = l.last_id + 1; section = section; start = or_zero (least_start l.area size); length = size; state = Loaded; users = 0 } in
-    record l { area = record l.area { entries = l.area.entries ++ entry ∷ [] }; last_id = l.last_id + 1 }
+loaded section size l = record l { area = record l.area { entries = l.area.entries ++ new_entry section size l ∷ [] }; last_id = l.last_id + 1 }
 
 -- ---- enter, leave, dead
 

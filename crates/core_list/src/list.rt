@@ -105,7 +105,7 @@ impl CoreList {
     /// Loads a module of so many tags at the least start that is free.
     pub fn load(&mut self, section: u32, length: u32) -> Result<(), AreaError>
         requires { 1 ≤ length }
-        ensures answer { MatchOption (load_refusal section length self.old) (result ≡ Ok ()) (λ why. result ≡ Err why) }
+        ensures answer { MatchOption (load_refusal section length self.old) (result ≡ Ok tt) (λ why. result ≡ Err why) }
         ensures ok { OnOk result (self.new ≡ loaded section length self.old) }
         ensures err { OnErr result (self.new ≡ self.old) }
     {
