@@ -1,35 +1,46 @@
 -- The machine with its words, the word state that it stands for, and what holds of it.
 use Rattle.std.specs.List.{AllByRecursion}
-use Rattle.std.specs.Prelude.{◌≡◌, ℕ, ◌+◌, ◌-◌, ◌*◌, ◌<◌, ◌≤◌, ◌≢◌, true, false, IsTrue, Option, Some, None, List, [], ◌∷◌, ◌++◌, length, slice_index_or, slice_set, replicate, sum_by, slice_index, fold}
+use Rattle.std.specs.Prelude.{◌≡◌, ℕ, All, IsSomeAnd, ◌^◌, ◌+◌, ◌-◌, ◌*◌, ◌<◌, ◌≤◌, ◌≢◌, true, false, IsTrue, Option, Some, None, List, [], ◌∷◌, ◌++◌, length, slice_index_or, slice_set, replicate, sum_by, slice_index, fold}
 use Rattle.tag_model.specs.declared.shape.Shape.{Shape}
 use Rattle.tag_model.specs.declared.state.Tag.{Tag}
 use Rattle.tag_model.specs.declared.state.Hand.{Hand}
 use Rattle.tag_model.specs.declared.state.Held.{Held}
 use Rattle.tag_model.specs.declared.state.Held.TheVariants as held
 use Rattle.tag_model.specs.declared.state.Kind.{Kind}
-use Rattle.tag_model.specs.declared.state.Sweep.TheVariants as sweep
+use Rattle.tag_model.specs.declared.state.Run.{Run}
 use Rattle.tag_model.specs.declared.state.CpuPart.{CpuPart}
-use Rattle.tag_model.specs.declared.state.ListPart.{ListPart}
 use Rattle.tag_model.specs.declared.state.Part.{Part}
 use Rattle.tag_model.specs.declared.state.Part.TheVariants.{Cpu, Place, Modules, NextId}
 use Rattle.tag_model.specs.declared.limits.TheConstants.{SIZE_END}
 use Rattle.tag_model.specs.Shape.{IsChecked}
 use Rattle.tag_model.specs.Wrap.{wrap}
 use Rattle.tag_model.specs.WordState.{word_place}
-use Rattle.tag_model.specs.Laws.{Safe}
+use Rattle.tag_model.specs.Laws.{Safe, sweep_fits}
 use Rattle.core_steps.specs.declared.op.Op.{Op}
-use Rattle.core_steps.specs.declared.op.Op.TheVariants.{Open, Close, Split, Swap, Trim}
+use Rattle.core_steps.specs.declared.op.Op.TheVariants.{Open, Close, Split, Swap, Trim, Enter, Leave, Load, Unload, Clean}
+use Rattle.core_steps.specs.declared.op.Event.{Event}
+use Rattle.core_steps.specs.declared.op.Event.TheVariants.{Stepped}
+use Rattle.core_steps.specs.declared.step.WordStep.{WordStep}
+use Rattle.core_steps.specs.declared.step.WordStep.TheVariants.{BeginAllocation, AddBytes, AddCall, SubtractBytes, SubtractCall, Write, GoIn, GoOut, Rest}
 use Rattle.core_steps.specs.declared.op.Actor.{Actor}
 use Rattle.core_steps.specs.declared.op.Actor.TheVariants as actor
 use Rattle.core_steps.specs.declared.op.StepRefused.{StepRefused}
 use Rattle.core_steps.specs.declared.op.TheConstants.{KEY_END, MAX_PARTS}
-use Rattle.core_steps.specs.Machine.{Waiting, Machine, nothing_waits, hand_at, held_at, waiting_at, kernel_tag, reserves, is_counted, bytes_in, refusal_of, after_step, words_after, step_of, step_count, KeysFit, HasCall, CanTake, part_key, is_new_key}
+use Rattle.core_steps.specs.Machine.{Waiting, Machine, nothing_waits, hand_at, held_at, waiting_at, run_at, tag_in, reserves, refusal_in, is_counted, bytes_in, refusal_of, after_step, words_after, step_of, step_count, KeysFit, HasCall, CanTake, part_key, is_new_key}
+use Rattle.core_steps.specs.Modules.{Managing, Modules, nothing_managed, inside_at, scene_at, manager_reads, section_len, modules_after, manager_refusal, managed, manager_event, is_nothing, word_in}
+use Rattle.core_list.specs.ListState.{ListState, IsList, records_of, list_part, fresh_list, next_of, loaded_entry}
+use Rattle.module_area.specs.declared.entry.Entry.{Entry}
+use Rattle.module_area.specs.declared.entry.State.TheVariants.{Loaded}
+use Rattle.module_area.specs.declared.book.TheConstants.{USER_LIMIT}
+use Rattle.module_area.specs.Entries.{entry_of}
+use Rattle.tag_section.specs.Section.{Section}
 
 pub record CoreState : Type 0 where
   pub shape : Shape
-  pub kernel_len : ℕ
+  pub sections : List Section
   pub machine : Machine
   pub words : List (List ℕ)
+  pub modules : Modules
 
 -- a CPU's words
 abbrev pub words_at : List (List ℕ) → ℕ → List ℕ
@@ -37,65 +48,158 @@ words_at words cpu = slice_index_or words cpu []
 
 -- ---- the word state
 
-abbrev pub cpu_part : ℕ → Option Hand → List ℕ → CpuPart
-cpu_part n hand words = record { number = n; words = words; hand = hand; runs = []; notes = [] }
+abbrev pub cpu_part : ℕ → Option Hand → List ℕ → List Run → CpuPart
+cpu_part n hand words runs = record { number = n; words = words; hand = hand; runs = runs; notes = [] }
 
 -- the CPUs, numbered from n on
-abbrev pub cpu_parts : ℕ → List (Option Hand) → List (List ℕ) → List Part
-cpu_parts n [] words = []
-cpu_parts n (hand ∷ hands) [] = []
-cpu_parts n (hand ∷ hands) (words ∷ others) = Cpu (cpu_part n hand words) ∷ cpu_parts (n + 1) hands others
+abbrev pub cpu_parts : ℕ → List (Option Hand) → List (List ℕ) → (ℕ → List Run) → List Part
+cpu_parts n [] words runs = []
+cpu_parts n (hand ∷ hands) [] runs = []
+cpu_parts n (hand ∷ hands) (words ∷ others) runs = Cpu (cpu_part n hand words (runs n)) ∷ cpu_parts (n + 1) hands others runs
 
 -- the places, one for each key
 abbrev pub place_parts : ℕ → List Held → List Part
 place_parts n [] = []
 place_parts n (held ∷ places) = Place n held ∷ place_parts (n + 1) places
 
--- no module was ever loaded
-abbrev pub no_modules : ListPart
-no_modules = record { records = []; sweep = sweep.None; stops = []; reads = 0; away = [] }
+-- the runs of a CPU
+abbrev pub runs_in : List (Option Run) → List Run
+runs_in [] = []
+runs_in (None ∷ inside) = runs_in inside
+runs_in (Some r ∷ inside) = r ∷ runs_in inside
 
-unfoldable pub state_of : Machine → List (List ℕ) → List Part
-state_of m words = cpu_parts 0 m.hands words ++ (place_parts 0 m.places ++ Modules no_modules ∷ NextId 1 ∷ [])
+-- the runs of each CPU
+abbrev pub runs_of : Modules → ℕ → List Run
+runs_of ms cpu = runs_in (inside_at ms cpu)
+
+-- the list and the next id
+abbrev pub list_parts : ℕ → List Run → ListState → List Part
+list_parts reads away list = Modules (list_part reads away list) ∷ NextId (list.last_id + 1) ∷ []
+
+-- the whole state, after so many reads, with these runs on their way; a core keeps neither
+unfoldable pub state_with : ℕ → List Run → Machine → List (List ℕ) → (ℕ → List Run) → ListState → List Part
+state_with reads away m words runs list = cpu_parts 0 m.hands words runs ++ (place_parts 0 m.places ++ list_parts reads away list)
+
+abbrev pub state_of : ℕ → Machine → List (List ℕ) → Modules → List Part
+state_of reads m words ms = state_with reads [] m words (runs_of ms) ms.list
+
+-- the word state of a core, after so many reads
+abbrev pub state_after : ℕ → CoreState → List Part
+state_after reads s = state_of reads s.machine s.words s.modules
 
 abbrev pub word_state : CoreState → List Part
-word_state s = state_of s.machine s.words
+word_state s = state_after 0 s
 
 -- ---- what is refused, and what a step leaves
 
 abbrev pub refused : CoreState → Actor → Option StepRefused
-refused s (actor.Cpu cpu) = refusal_of s.machine cpu
+refused s (actor.Cpu cpu) = refusal_of s.machine (scene_at s.modules cpu) cpu
+refused s actor.Manager = manager_refusal s.sections s.modules
 
-abbrev pub words_stepped : Machine → List (List ℕ) → ℕ → List Op → ℕ → List (List ℕ)
-words_stepped m words cpu [] done = words
-words_stepped m words cpu (op ∷ ops) done = slice_set words cpu (words_after (step_of op done (hand_at m cpu) m.places) (hand_at m cpu) (words_at words cpu))
+abbrev pub words_stepped : Machine → List (Option Run) → List (List ℕ) → ℕ → List Op → ℕ → List (List ℕ)
+words_stepped m inside words cpu [] done = words
+words_stepped m inside words cpu (op ∷ ops) done = slice_set words cpu (words_after (step_of op done (hand_at m cpu) m.places inside) (hand_at m cpu) (words_at words cpu))
 
-abbrev pub words_after_step : Machine → List (List ℕ) → ℕ → List (List ℕ)
-words_after_step m words cpu = let w = waiting_at m cpu in words_stepped m words cpu w.ops w.done
+abbrev pub words_after_step : Machine → List (Option Run) → List (List ℕ) → ℕ → List (List ℕ)
+words_after_step m inside words cpu = let w = waiting_at m cpu in words_stepped m inside words cpu w.ops w.done
+
+abbrev pub modules_stepped : Machine → Modules → ℕ → List Op → ℕ → Modules
+modules_stepped m ms cpu [] done = ms
+modules_stepped m ms cpu (op ∷ ops) done = modules_after (step_of op done (hand_at m cpu) m.places (inside_at ms cpu)) ms cpu
+
+-- the modules after the CPU's next step
+abbrev pub modules_after_step : Machine → Modules → ℕ → Modules
+modules_after_step m ms cpu = let w = waiting_at m cpu in modules_stepped m ms cpu w.ops w.done
 
 abbrev pub stepped : CoreState → Actor → CoreState
-stepped s (actor.Cpu cpu) = record s { machine = after_step s.machine cpu; words = words_after_step s.machine s.words cpu }
+stepped s (actor.Cpu cpu) = record s {
+  machine = after_step s.machine (inside_at s.modules cpu) cpu;
+  words = words_after_step s.machine (inside_at s.modules cpu) s.words cpu;
+  modules = modules_after_step s.machine s.modules cpu;
+}
+stepped s actor.Manager = record s { modules = managed s.shape s.sections s.words s.modules }
+
+-- what a step tells
+abbrev pub event_of : CoreState → Actor → Event
+event_of s (actor.Cpu cpu) = Stepped
+event_of s actor.Manager = manager_event s.shape s.words s.modules
+
+-- how many words a step reads for a sweep
+abbrev pub reads_of : CoreState → Actor → ℕ
+reads_of s (actor.Cpu cpu) = 0
+reads_of s actor.Manager = manager_reads s.modules
+
+-- the section that an op names has a place among the runs
+abbrev pub SectionsFit : Op → ℕ → Type 0
+SectionsFit (Open key section index size) sections = section < sections
+SectionsFit (Close key) sections = Unit {0}
+SectionsFit (Split key parts first) sections = Unit {0}
+SectionsFit (Swap one two) sections = Unit {0}
+SectionsFit (Trim key bytes) sections = Unit {0}
+SectionsFit (Enter section) sections = section < sections
+SectionsFit (Leave section) sections = section < sections
+SectionsFit (Load section) sections = Unit {0}
+SectionsFit (Unload section) sections = Unit {0}
+SectionsFit Clean sections = Unit {0}
+
+-- a tag's number is a 32-bit number
+abbrev pub TagFits : Op → List (Option Run) → Type 0
+TagFits (Open key section index size) inside = (tag_in inside section index).number < 2 ^ 32
+TagFits (Close key) inside = Unit {0}
+TagFits (Split key parts first) inside = Unit {0}
+TagFits (Swap one two) inside = Unit {0}
+TagFits (Trim key bytes) inside = Unit {0}
+TagFits (Enter section) inside = Unit {0}
+TagFits (Leave section) inside = Unit {0}
+TagFits (Load section) inside = Unit {0}
+TagFits (Unload section) inside = Unit {0}
+TagFits Clean inside = Unit {0}
+
+-- the module that is entered can have one user more
+abbrev pub HasUserLeft : ListState → Option Entry → Type 0
+HasUserLeft list None = Unit {0}
+HasUserLeft list (Some e) = IsSomeAnd (entry_of list.area.entries e.id) (λ entry. (entry.state ≡ Loaded) × (entry.users < USER_LIMIT))
+
+-- the module that is left has a user
+abbrev pub HasUser : ListState → Option Run → Type 0
+HasUser list None = Unit {0}
+HasUser list (Some r) = IsSomeAnd (entry_of list.area.entries r.id) (λ entry. 0 < entry.users)
+
+-- the list can count a CPU that goes in or out
+abbrev pub ListFits : WordStep → Modules → ℕ → Type 0
+ListFits (BeginAllocation tag) ms cpu = Unit {0}
+ListFits (AddBytes size) ms cpu = Unit {0}
+ListFits AddCall ms cpu = Unit {0}
+ListFits (SubtractBytes bytes) ms cpu = Unit {0}
+ListFits SubtractCall ms cpu = Unit {0}
+ListFits (Write key held next) ms cpu = Unit {0}
+ListFits (GoIn section) ms cpu = (cpu < length ms.inside) × (section < length (inside_at ms cpu)) × HasUserLeft ms.list (loaded_entry section ms.list)
+ListFits (GoOut section) ms cpu = (cpu < length ms.inside) × (section < length (inside_at ms cpu)) × HasUser ms.list (run_at (inside_at ms cpu) section)
+ListFits Rest ms cpu = Unit {0}
 
 -- what a step of an op reads and writes is there
-abbrev pub CanStep : Machine → List (List ℕ) → ℕ → List Op → ℕ → Type 0
-CanStep m words cpu [] done = Unit {0}
-CanStep m words cpu (op ∷ ops) done =
-    KeysFit op × (done < step_count op) × HasCall (hand_at m cpu) × CanTake (step_of op done (hand_at m cpu) m.places) (hand_at m cpu) (length (words_at words cpu)) (length m.places)
+abbrev pub CanStep : Machine → Modules → List (List ℕ) → ℕ → List Op → ℕ → Type 0
+CanStep m ms words cpu [] done = Unit {0}
+CanStep m ms words cpu (op ∷ ops) done =
+    KeysFit op × (done < step_count op) × HasCall (hand_at m cpu) × CanTake (step_of op done (hand_at m cpu) m.places (inside_at ms cpu)) (hand_at m cpu) (length (words_at words cpu)) (length m.places)
+    × SectionsFit op (length (inside_at ms cpu)) × TagFits op (inside_at ms cpu)
+    × (refusal_in m (scene_at ms cpu) (op ∷ ops) done ≡ None → ListFits (step_of op done (hand_at m cpu) m.places (inside_at ms cpu)) ms cpu)
 
 -- what the CPU's next step reads and writes is there
-pub record CanGo (m : Machine) (all : List (List ℕ)) (cpu : ℕ) : Type 0 where
+pub record CanGo (m : Machine) (ms : Modules) (all : List (List ℕ)) (cpu : ℕ) : Type 0 where
   pub hands : length m.hands ≡ length m.waiting
   pub places : length m.places ≡ KEY_END
   pub words : length all ≡ length m.waiting
-  pub step : cpu < length m.waiting → let w = waiting_at m cpu in CanStep m all cpu w.ops w.done
+  pub inside : length ms.inside ≡ length m.waiting
+  pub step : cpu < length m.waiting → let w = waiting_at m cpu in CanStep m ms all cpu w.ops w.done
 
 -- ---- what may be queued
 
-pub record IsOpen (kernel_len key section index size : ℕ) : Type 0 where
+pub record IsOpen (sections : List Section) (key section index size : ℕ) : Type 0 where
   pub some_key : 0 < key
   pub key_below : key < KEY_END
-  pub in_kernel : section ≡ 0
-  pub in_section : index < kernel_len
+  pub has_section : section < length sections
+  pub in_section : index < section_len sections section
   pub some_bytes : 0 < size
   pub size_below : size < SIZE_END
 
@@ -126,26 +230,61 @@ pub record IsTrim (key bytes : ℕ) : Type 0 where
   pub some_bytes : 0 < bytes
   pub bytes_below : bytes < SIZE_END
 
-abbrev pub IsOp : ℕ → Op → Type 0
-IsOp kernel_len (Open key section index size) = IsOpen kernel_len key section index size
-IsOp kernel_len (Close key) = IsKey key
-IsOp kernel_len (Split key parts first) = IsSplit key parts first
-IsOp kernel_len (Swap one two) = IsSwap one two
-IsOp kernel_len (Trim key bytes) = IsTrim key bytes
+-- the section is a module's
+pub record IsModule (sections : List Section) (section : ℕ) : Type 0 where
+  pub behind_kernel : 0 < section
+  pub has_section : section < length sections
+
+-- an op of a CPU
+abbrev pub IsOp : List Section → Op → Type 0
+IsOp sections (Open key section index size) = IsOpen sections key section index size
+IsOp sections (Close key) = IsKey key
+IsOp sections (Split key parts first) = IsSplit key parts first
+IsOp sections (Swap one two) = IsSwap one two
+IsOp sections (Trim key bytes) = IsTrim key bytes
+IsOp sections (Enter section) = IsModule sections section
+IsOp sections (Leave section) = IsModule sections section
+IsOp sections (Load section) = ⊥
+IsOp sections (Unload section) = ⊥
+IsOp sections Clean = ⊥
+
+-- an op of the manager
+abbrev pub IsManagerOp : List Section → Op → Type 0
+IsManagerOp sections (Open key section index size) = ⊥
+IsManagerOp sections (Close key) = ⊥
+IsManagerOp sections (Split key parts first) = ⊥
+IsManagerOp sections (Swap one two) = ⊥
+IsManagerOp sections (Trim key bytes) = ⊥
+IsManagerOp sections (Enter section) = ⊥
+IsManagerOp sections (Leave section) = ⊥
+IsManagerOp sections (Load section) = IsModule sections section
+IsManagerOp sections (Unload section) = IsModule sections section
+IsManagerOp sections Clean = Unit {0}
+
+-- an op of the actor
+abbrev pub IsOpOf : List Section → Actor → Op → Type 0
+IsOpOf sections (actor.Cpu cpu) op = IsOp sections op
+IsOpOf sections actor.Manager op = IsManagerOp sections op
 
 -- the actor is one of the shape
 abbrev pub IsActor : CoreState → Actor → Type 0
 IsActor s (actor.Cpu cpu) = cpu < s.shape.cpus
+IsActor s actor.Manager = Unit {0}
 
 abbrev pub ops_of : CoreState → Actor → List Op
 ops_of s (actor.Cpu cpu) = (waiting_at s.machine cpu).ops
+ops_of s actor.Manager = s.modules.manager.ops
 
 abbrev pub with_op : Waiting → Op → Waiting
 with_op w op = record w { ops = w.ops ++ op ∷ [] }
 
+abbrev pub with_managed : Managing → Op → Managing
+with_managed w op = record w { ops = w.ops ++ op ∷ [] }
+
 -- the op is the actor's last
 abbrev pub queued : CoreState → Actor → Op → CoreState
 queued s (actor.Cpu cpu) op = record s { machine = record s.machine { waiting = slice_set s.machine.waiting cpu (with_op (waiting_at s.machine cpu) op) } }
+queued s actor.Manager op = record s { modules = record s.modules { manager = with_managed s.modules.manager op } }
 
 -- ---- what holds of a core
 
@@ -153,11 +292,16 @@ queued s (actor.Cpu cpu) op = record s { machine = record s.machine { waiting = 
 abbrev pub opening_hand : Tag → ℕ → Option Hand
 opening_hand tag bytes = Some (record { tag = tag; bytes = bytes; calls = 1; opening = true })
 
-pub record IsOpening (places : List Held) (hand : Option Hand) (key : ℕ) (tag : Tag) (size done : ℕ) : Type 0 where
+-- it has counted its call, and so many bytes
+pub record HoldsOpening (hand : Option Hand) (bytes : ℕ) : Type 0 where
+  pub tag : Tag
+  pub held : hand ≡ opening_hand tag bytes
+
+pub record IsOpening (places : List Held) (hand : Option Hand) (key size done : ℕ) : Type 0 where
   pub within : done < 3
   pub start : done ≡ 0 → hand ≡ None
-  pub begun : done ≡ 1 → hand ≡ opening_hand tag 0
-  pub counted : done ≡ 2 → hand ≡ opening_hand tag size
+  pub begun : done ≡ 1 → HoldsOpening hand 0
+  pub counted : done ≡ 2 → HoldsOpening hand size
   pub place : 0 < done → held_at places key ≡ held.None
 
 -- a hand of so many bytes and calls, and of no allocation
@@ -216,36 +360,87 @@ pub record IsTrimming (places : List Held) (hand : Option Hand) (key bytes done 
   pub more : done ≡ 1 → bytes < bytes_in hand
   pub place : 0 < done → held_at places key ≡ held.None
 
+-- an op of one step isn't begun
+pub record IsWaiting (hand : Option Hand) (done : ℕ) : Type 0 where
+  pub within : done < 1
+  pub start : done ≡ 0 → hand ≡ None
+
 -- the hand and the places of an op after so many of its steps
 abbrev pub IsUnderWay : List Held → Option Hand → Op → ℕ → Type 0
-IsUnderWay places hand (Open key section index size) done = IsOpening places hand key (kernel_tag index) size done
+IsUnderWay places hand (Open key section index size) done = IsOpening places hand key size done
 IsUnderWay places hand (Close key) done = IsClosing hand done
 IsUnderWay places hand (Split key parts first) done = IsSplitting places hand key parts first done
 IsUnderWay places hand (Swap one two) done = IsSwapping places hand one two done
 IsUnderWay places hand (Trim key bytes) done = IsTrimming places hand key bytes done
+IsUnderWay places hand (Enter section) done = IsWaiting hand done
+IsUnderWay places hand (Leave section) done = IsWaiting hand done
+IsUnderWay places hand (Load section) done = IsWaiting hand done
+IsUnderWay places hand (Unload section) done = IsWaiting hand done
+IsUnderWay places hand Clean done = IsWaiting hand done
 
 -- a CPU's hand fits what it does, and its ops may be queued
-abbrev pub IsReady : ℕ → List Held → Option Hand → List Op → ℕ → Type 0
-IsReady kernel_len places hand [] done = (hand ≡ None) × (done ≡ 0)
-IsReady kernel_len places hand (op ∷ ops) done = IsUnderWay places hand op done × IsOp kernel_len op × AllByRecursion (IsOp kernel_len) ops
+abbrev pub IsReady : List Section → List Held → Option Hand → List Op → ℕ → Type 0
+IsReady sections places hand [] done = (hand ≡ None) × (done ≡ 0)
+IsReady sections places hand (op ∷ ops) done = IsUnderWay places hand op done × IsOp sections op × AllByRecursion (IsOp sections) ops
 
-abbrev pub IsReadyAt : ℕ → Machine → ℕ → Type 0
-IsReadyAt kernel_len m cpu = let w = waiting_at m cpu in IsReady kernel_len m.places (hand_at m cpu) w.ops w.done
+abbrev pub IsReadyAt : List Section → Machine → ℕ → Type 0
+IsReadyAt sections m cpu = let w = waiting_at m cpu in IsReady sections m.places (hand_at m cpu) w.ops w.done
 
 -- the machine is of the shape, each CPU is ready, and no key is reserved by two
-pub record IsMachine (cpus kernel_len : ℕ) (m : Machine) : Type 0 where
+pub record IsMachine (cpus : ℕ) (sections : List Section) (m : Machine) : Type 0 where
   pub hands : length m.hands ≡ cpus
   pub waiting : length m.waiting ≡ cpus
   pub places : length m.places ≡ KEY_END
-  pub ready : (cpu : ℕ) → cpu < cpus → IsReadyAt kernel_len m cpu
+  pub ready : (cpu : ℕ) → cpu < cpus → IsReadyAt sections m cpu
   pub apart : (i j key : ℕ) → i < cpus → j < cpus → i ≢ j → IsTrue (reserves key (waiting_at m i)) → IsTrue (reserves key (waiting_at m j)) → ⊥
+
+-- what the manager's next step reads is there
+pub record CanManage (k : Shape) (sections : List Section) (words : List (List ℕ)) (ms : Modules) : Type 0 where
+  pub checked : IsChecked k
+  pub ops : AllByRecursion (IsManagerOp sections) ms.manager.ops
+  pub some_tag : (section : ℕ) → section < length sections → 1 ≤ section_len sections section
+  pub cpus : length words ≡ k.cpus
+  pub own_words : (cpu : ℕ) → cpu < k.cpus → length (words_at words cpu) ≡ 2 * k.tags
+  pub area : ms.list.area.first + ms.list.area.tags ≡ k.tags
+  pub sweep : IsTrue (sweep_fits k ms.list.sweep (records_of ms.list))
+
+-- a run stands at its section, and has the section's tags, which are tags of the shape
+pub record RunFits (k : Shape) (sections : List Section) (section : ℕ) (r : Run) : Type 0 where
+  pub some_id : 0 < r.id
+  pub of_section : r.section ≡ section
+  pub all_tags : r.length ≡ section_len sections section
+  pub in_shape : r.start + r.length ≤ k.tags
+
+-- an entry is of a module's section, and has the section's tags
+pub record EntryFits (sections : List Section) (e : Entry) : Type 0 where
+  pub of_module : IsModule sections e.section
+  pub all_tags : e.length ≡ section_len sections e.section
+
+pub record AreModules (k : Shape) (sections : List Section) (ms : Modules) : Type 0 where
+  pub cpus : length ms.inside ≡ k.cpus
+  pub slots : (cpu : ℕ) → cpu < k.cpus → length (inside_at ms cpu) ≡ length sections
+  pub runs : (cpu section : ℕ) (r : Run) → run_at (inside_at ms cpu) section ≡ Some r → RunFits k sections section r
+  pub list : IsList ms.list
+  pub first : ms.list.area.first ≡ k.kernel_tags
+  pub tags : ms.list.area.first + ms.list.area.tags ≡ k.tags
+  pub entries : All (EntryFits sections) ms.list.area.entries
+  pub ops : AllByRecursion (IsManagerOp sections) ms.manager.ops
+  -- an op that is under way has something left to read or to release
+  pub goes_on : ms.manager.under_way ≡ true → is_nothing (next_of ms.list.sweep) ≡ false
+
+-- there is the kernel's section, which fits, and each section has a tag
+pub record SectionsFitShape (k : Shape) (sections : List Section) : Type 0 where
+  pub kernel : 0 < length sections
+  pub kernel_fits : section_len sections 0 ≤ k.kernel_tags
+  pub some_tag : (section : ℕ) → section < length sections → 1 ≤ section_len sections section
 
 pub record IsCore (s : CoreState) : Type 0 where
   pub shape : IsChecked s.shape
-  pub kernel : s.kernel_len ≤ s.shape.kernel_tags
-  pub machine : IsMachine s.shape.cpus s.kernel_len s.machine
+  pub sections : SectionsFitShape s.shape s.sections
+  pub machine : IsMachine s.shape.cpus s.sections s.machine
   pub words : length s.words ≡ s.shape.cpus
   pub own_words : (cpu : ℕ) → cpu < s.shape.cpus → length (words_at s.words cpu) ≡ 2 * s.shape.tags
+  pub modules : AreModules s.shape s.sections s.modules
   pub safe : Safe s.shape (word_state s)
 
 -- ---- a fresh core
@@ -256,8 +451,18 @@ no_places = replicate KEY_END held.None
 abbrev pub fresh_machine : ℕ → Machine
 fresh_machine cpus = record { hands = replicate cpus None; places = no_places; waiting = replicate cpus nothing_waits }
 
-abbrev pub fresh : Shape → ℕ → CoreState
-fresh shape kernel_len = record { shape = shape; kernel_len = kernel_len; machine = fresh_machine shape.cpus; words = replicate shape.cpus (replicate (2 * shape.tags) 0) }
+-- no CPU is inside a module, and none was loaded
+abbrev pub fresh_modules : Shape → ℕ → Modules
+fresh_modules k sections = record { inside = replicate k.cpus (replicate sections None); list = fresh_list k.kernel_tags (k.tags - k.kernel_tags); manager = nothing_managed }
+
+abbrev pub fresh : Shape → List Section → CoreState
+fresh shape sections = record {
+  shape = shape;
+  sections = sections;
+  machine = fresh_machine shape.cpus;
+  words = replicate shape.cpus (replicate (2 * shape.tags) 0);
+  modules = fresh_modules shape (length sections);
+}
 
 -- ---- totals
 
@@ -267,7 +472,7 @@ total_of words kind tag = wrap (sum_by (λ (own : List ℕ). slice_index own (wo
 
 -- the CPU's word of a kind for a tag
 abbrev pub word_at : List (List ℕ) → ℕ → Kind → ℕ → ℕ
-word_at words cpu kind tag = slice_index (words_at words cpu) (word_place kind tag)
+word_at words cpu kind tag = word_in words cpu kind tag
 
 -- ---- runs
 

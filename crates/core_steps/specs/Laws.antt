@@ -7,6 +7,7 @@ use Rattle.core_steps.specs.declared.op.Op.{Op}
 use Rattle.core_steps.specs.declared.op.Actor.{Actor}
 use Rattle.core_steps.specs.declared.op.Actor.TheVariants as actor
 use Rattle.core_steps.specs.Machine.{Waiting, waiting_at, moves_of_step}
+use Rattle.core_steps.specs.Modules.{inside_at}
 use Rattle.core_steps.specs.CoreState.{CoreState, refused, stepped, run_of}
 
 -- the CPU's first op, of which it has taken so many steps
@@ -24,7 +25,8 @@ after_steps s cpu n = run_of s (replicate n (actor.Cpu cpu))
 
 -- the moves of an actor's next step
 abbrev pub moves_of_actor : CoreState → Actor → List Move
-moves_of_actor s (actor.Cpu cpu) = moves_of_step s.machine cpu
+moves_of_actor s (actor.Cpu cpu) = moves_of_step s.machine (inside_at s.modules cpu) cpu
+moves_of_actor s actor.Manager = []
 
 -- the moves of a run
 abbrev pub moves_of_run : CoreState → List Actor → List Move

@@ -1,5 +1,7 @@
 pub mod Machine
+pub mod Modules
 pub mod CoreState
 pub mod Moved
 pub mod StepsLeft
 pub mod Laws
+pub mod Release

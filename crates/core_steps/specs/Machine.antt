@@ -5,18 +5,20 @@ use Rattle.tag_model.specs.declared.state.Tag.{Tag}
 use Rattle.tag_model.specs.declared.state.Hand.{Hand}
 use Rattle.tag_model.specs.declared.state.Held.{Held}
 use Rattle.tag_model.specs.declared.state.Held.TheVariants as held
+use Rattle.tag_model.specs.declared.state.Run.{Run}
 use Rattle.tag_model.specs.declared.state.Kind.{Kind}
 use Rattle.tag_model.specs.declared.state.Kind.TheVariants.{Bytes, Calls}
 use Rattle.tag_model.specs.declared.limits.TheConstants.{MAX_HAND_CALLS}
 use Rattle.tag_model.specs.Moves.{Move}
 use Rattle.tag_model.specs.StepRules.{raised, lowered, without_call}
 use Rattle.core_steps.specs.declared.op.Op.{Op}
-use Rattle.core_steps.specs.declared.op.Op.TheVariants.{Open, Close, Split, Swap, Trim}
+use Rattle.core_steps.specs.declared.op.Op.TheVariants.{Open, Close, Split, Swap, Trim, Enter, Leave, Load, Unload, Clean}
 use Rattle.core_steps.specs.declared.op.StepRefused.{StepRefused}
-use Rattle.core_steps.specs.declared.op.StepRefused.TheVariants.{NoStep, NotLive, KeyUsed, Uneven, TooSmall}
+use Rattle.core_steps.specs.declared.op.StepRefused.TheVariants.{NoStep, ListHeld, NotLive, KeyUsed, NotRunning, Inside, NotLoaded, Uneven, TooSmall}
 use Rattle.core_steps.specs.declared.op.TheConstants.{KEY_END}
 use Rattle.core_steps.specs.declared.step.WordStep.{WordStep}
-use Rattle.core_steps.specs.declared.step.WordStep.TheVariants.{BeginAllocation, AddBytes, AddCall, SubtractBytes, SubtractCall, Write}
+use Rattle.core_steps.specs.declared.step.WordStep.TheVariants.{BeginAllocation, AddBytes, AddCall, SubtractBytes, SubtractCall, Write, GoIn, GoOut, Rest}
+use Rattle.core_list.specs.ListState.{ListState, loaded_entry, is_some_entry}
 
 -- the ops of a CPU, of which so many steps of the first are done
 pub record Waiting : Type 0 where
@@ -102,6 +104,23 @@ new_keys parts first = range_with_len first (parts - 1)
 abbrev pub kernel_tag : ℕ → Tag
 kernel_tag index = record { number = index; «module» = 0 }
 
+-- by section, the run of the CPU on the section's module
+abbrev pub run_at : List (Option Run) → ℕ → Option Run
+run_at inside section = slice_index_or inside section None
+
+abbrev pub is_run : Option Run → Bool
+is_run None = false
+is_run (Some r) = true
+
+-- tag i of a module is the i-th of its range
+abbrev pub module_tag : Option Run → ℕ → Tag
+module_tag None index = kernel_tag index
+module_tag (Some r) index = record { number = r.start + index; «module» = r.id }
+
+-- a tag of the kernel's section, or of a module that the CPU is inside
+abbrev pub tag_in : List (Option Run) → ℕ → ℕ → Tag
+tag_in inside section index = if section == 0 then kernel_tag index else module_tag (run_at inside section) index
+
 -- write-cell clears the place, and takes in hand what it held
 abbrev pub clear_step : ℕ → List Held → WordStep
 clear_step key places = Write key held.None (in_hand (held_at places key))
@@ -122,13 +141,18 @@ step_count (Close key) = 3
 step_count (Split key parts first) = 2 * parts
 step_count (Swap one two) = 3
 step_count (Trim key bytes) = 3
+step_count (Enter section) = 1
+step_count (Leave section) = 1
+step_count (Load section) = 1
+step_count (Unload section) = 1
+step_count Clean = 1
 
 -- an allocation: add-call, add-bytes with its size, write-cell
-abbrev pub open_step : ℕ → ℕ → ℕ → ℕ → WordStep
-open_step key index size done =
-    if done == 0 then BeginAllocation (kernel_tag index)
+abbrev pub open_step : ℕ → Tag → ℕ → ℕ → Option Hand → WordStep
+open_step key tag size done hand =
+    if done == 0 then BeginAllocation tag
     else (if done == 1 then AddBytes size
-    else Write key (held.Counted (kernel_tag index) size) None)
+    else put_step key hand)
 
 -- a free: write-cell clears the cell, sub-bytes subtracts its size, sub-call
 abbrev pub close_step : ℕ → ℕ → Option Hand → List Held → WordStep
@@ -158,13 +182,18 @@ trim_step key bytes done hand places =
     else (if done == 1 then SubtractBytes bytes
     else put_step key hand)
 
--- the step that comes after so many, with this in hand and these places
-abbrev pub step_of : Op → ℕ → Option Hand → List Held → WordStep
-step_of (Open key section index size) done hand places = open_step key index size done
-step_of (Close key) done hand places = close_step key done hand places
-step_of (Split key parts first) done hand places = split_step key parts first done hand places
-step_of (Swap one two) done hand places = swap_step one two done hand places
-step_of (Trim key bytes) done hand places = trim_step key bytes done hand places
+-- the step that comes after so many, with this in hand, these places and these runs; the manager's ops are no CPU's
+abbrev pub step_of : Op → ℕ → Option Hand → List Held → List (Option Run) → WordStep
+step_of (Open key section index size) done hand places inside = open_step key (tag_in inside section index) size done hand
+step_of (Close key) done hand places inside = close_step key done hand places
+step_of (Split key parts first) done hand places inside = split_step key parts first done hand places
+step_of (Swap one two) done hand places inside = swap_step one two done hand places
+step_of (Trim key bytes) done hand places inside = trim_step key bytes done hand places
+step_of (Enter section) done hand places inside = GoIn section
+step_of (Leave section) done hand places inside = GoOut section
+step_of (Load section) done hand places inside = Rest
+step_of (Unload section) done hand places inside = Rest
+step_of Clean done hand places inside = Rest
 
 -- the op names the key
 abbrev pub names_key : ℕ → Op → Bool
@@ -173,6 +202,11 @@ names_key key (Close named) = named == key
 names_key key (Split named parts first) = (named == key) || is_new_key key parts first
 names_key key (Swap one two) = (one == key) || (two == key)
 names_key key (Trim named bytes) = named == key
+names_key key (Enter section) = false
+names_key key (Leave section) = false
+names_key key (Load section) = false
+names_key key (Unload section) = false
+names_key key Clean = false
 
 -- ---- when a step is refused
 
@@ -195,8 +229,21 @@ is_used places waiting key = not (holds_nothing (held_at places key)) || is_rese
 abbrev pub is_live : List Held → List Waiting → ℕ → Bool
 is_live places waiting key = is_counted (held_at places key) && not (is_reserved key waiting)
 
-abbrev pub open_refusal : List Held → List Waiting → ℕ → Option StepRefused
-open_refusal places waiting key = if is_used places waiting key then Some (KeyUsed key) else None
+-- what a CPU sees of the modules: whether the manager holds the list, the list, and the CPU's own runs
+pub record Scene : Type 0 where
+  pub held : Bool
+  pub list : ListState
+  pub inside : List (Option Run)
+
+-- the tag is a module's, and the CPU isn't inside
+abbrev pub is_outside : ℕ → List (Option Run) → Bool
+is_outside section inside = not (section == 0) && not (is_run (run_at inside section))
+
+abbrev pub open_refusal : List Held → List Waiting → List (Option Run) → ℕ → ℕ → Option StepRefused
+open_refusal places waiting inside key section =
+    if is_used places waiting key then Some (KeyUsed key)
+    else (if is_outside section inside then Some (NotRunning section)
+    else None)
 
 abbrev pub close_refusal : List Held → List Waiting → ℕ → Option StepRefused
 close_refusal places waiting key = if not (is_live places waiting key) then Some (NotLive key) else None
@@ -228,21 +275,39 @@ trim_refusal places waiting key bytes =
     else (if not (nat_lt bytes (size_of (held_at places key))) then Some TooSmall
     else None)
 
--- an op's first step
-abbrev pub first_refusal : List Held → List Waiting → Op → Option StepRefused
-first_refusal places waiting (Open key section index size) = open_refusal places waiting key
-first_refusal places waiting (Close key) = close_refusal places waiting key
-first_refusal places waiting (Split key parts first) = split_refusal places waiting key parts first
-first_refusal places waiting (Swap one two) = swap_refusal places waiting one two
-first_refusal places waiting (Trim key bytes) = trim_refusal places waiting key bytes
+abbrev pub enter_refusal : Scene → ℕ → Option StepRefused
+enter_refusal scene section =
+    if scene.held then Some ListHeld
+    else (if not (is_some_entry (loaded_entry section scene.list)) then Some (NotLoaded section)
+    else (if is_run (run_at scene.inside section) then Some (Inside section)
+    else None))
 
-abbrev pub refusal_in : Machine → List Op → ℕ → Option StepRefused
-refusal_in m [] done = Some NoStep
-refusal_in m (op ∷ ops) done = if done == 0 then first_refusal m.places m.waiting op else None
+abbrev pub leave_refusal : Scene → ℕ → Option StepRefused
+leave_refusal scene section =
+    if scene.held then Some ListHeld
+    else (if not (is_run (run_at scene.inside section)) then Some (NotRunning section)
+    else None)
+
+-- an op's first step
+abbrev pub first_refusal : List Held → List Waiting → Scene → Op → Option StepRefused
+first_refusal places waiting scene (Open key section index size) = open_refusal places waiting scene.inside key section
+first_refusal places waiting scene (Close key) = close_refusal places waiting key
+first_refusal places waiting scene (Split key parts first) = split_refusal places waiting key parts first
+first_refusal places waiting scene (Swap one two) = swap_refusal places waiting one two
+first_refusal places waiting scene (Trim key bytes) = trim_refusal places waiting key bytes
+first_refusal places waiting scene (Enter section) = enter_refusal scene section
+first_refusal places waiting scene (Leave section) = leave_refusal scene section
+first_refusal places waiting scene (Load section) = None
+first_refusal places waiting scene (Unload section) = None
+first_refusal places waiting scene Clean = None
+
+abbrev pub refusal_in : Machine → Scene → List Op → ℕ → Option StepRefused
+refusal_in m scene [] done = Some NoStep
+refusal_in m scene (op ∷ ops) done = if done == 0 then first_refusal m.places m.waiting scene op else None
 
 -- why the CPU's next step is refused, if it is
-abbrev pub refusal_of : Machine → ℕ → Option StepRefused
-refusal_of m cpu = let w = waiting_at m cpu in refusal_in m w.ops w.done
+abbrev pub refusal_of : Machine → Scene → ℕ → Option StepRefused
+refusal_of m scene cpu = let w = waiting_at m cpu in refusal_in m scene w.ops w.done
 
 -- ---- what a step changes
 
@@ -269,6 +334,9 @@ hand_after AddCall hand = with_call hand
 hand_after (SubtractBytes bytes) hand = less_bytes bytes hand
 hand_after SubtractCall hand = less_call hand
 hand_after (Write key held next) hand = next
+hand_after (GoIn section) hand = hand
+hand_after (GoOut section) hand = hand
+hand_after Rest hand = hand
 
 abbrev pub places_after : WordStep → List Held → List Held
 places_after (BeginAllocation tag) places = places
@@ -277,6 +345,9 @@ places_after AddCall places = places
 places_after (SubtractBytes bytes) places = places
 places_after SubtractCall places = places
 places_after (Write key held next) places = slice_set places key held
+places_after (GoIn section) places = places
+places_after (GoOut section) places = places
+places_after Rest places = places
 
 -- a word of the tag in hand is raised
 abbrev pub raised_in_hand : Option Hand → Kind → ℕ → List ℕ → List ℕ
@@ -295,6 +366,9 @@ words_after AddCall hand words = raised_in_hand hand Calls 1 words
 words_after (SubtractBytes bytes) hand words = lowered_in_hand hand Bytes bytes words
 words_after SubtractCall hand words = lowered_in_hand hand Calls 1 words
 words_after (Write key held next) hand words = words
+words_after (GoIn section) hand words = words
+words_after (GoOut section) hand words = words
+words_after Rest hand words = words
 
 -- a move on a word of the tag in hand
 abbrev pub move_in_hand : ℕ → Option Hand → Kind → ℕ → ℕ → List Move
@@ -309,6 +383,9 @@ moves_of cpu AddCall hand = move_in_hand cpu hand Calls 1 0
 moves_of cpu (SubtractBytes bytes) hand = move_in_hand cpu hand Bytes 0 bytes
 moves_of cpu SubtractCall hand = move_in_hand cpu hand Calls 0 1
 moves_of cpu (Write key held next) hand = []
+moves_of cpu (GoIn section) hand = []
+moves_of cpu (GoOut section) hand = []
+moves_of cpu Rest hand = []
 
 -- one step more is done, and after an op's last step the next op is the first
 abbrev pub advanced : List Op → ℕ → Waiting
@@ -323,21 +400,21 @@ machine_after m cpu step next = record {
   waiting = slice_set m.waiting cpu next;
 }
 
-abbrev pub stepped_by : Machine → ℕ → List Op → ℕ → Machine
-stepped_by m cpu [] done = m
-stepped_by m cpu (op ∷ ops) done = machine_after m cpu (step_of op done (hand_at m cpu) m.places) (advanced (op ∷ ops) done)
+abbrev pub stepped_by : Machine → List (Option Run) → ℕ → List Op → ℕ → Machine
+stepped_by m inside cpu [] done = m
+stepped_by m inside cpu (op ∷ ops) done = machine_after m cpu (step_of op done (hand_at m cpu) m.places inside) (advanced (op ∷ ops) done)
 
 -- the machine after the CPU's next step
-abbrev pub after_step : Machine → ℕ → Machine
-after_step m cpu = let w = waiting_at m cpu in stepped_by m cpu w.ops w.done
+abbrev pub after_step : Machine → List (Option Run) → ℕ → Machine
+after_step m inside cpu = let w = waiting_at m cpu in stepped_by m inside cpu w.ops w.done
 
-abbrev pub moves_in : Machine → ℕ → List Op → ℕ → List Move
-moves_in m cpu [] done = []
-moves_in m cpu (op ∷ ops) done = moves_of cpu (step_of op done (hand_at m cpu) m.places) (hand_at m cpu)
+abbrev pub moves_in : Machine → List (Option Run) → ℕ → List Op → ℕ → List Move
+moves_in m inside cpu [] done = []
+moves_in m inside cpu (op ∷ ops) done = moves_of cpu (step_of op done (hand_at m cpu) m.places inside) (hand_at m cpu)
 
 -- the moves of the CPU's next step
-abbrev pub moves_of_step : Machine → ℕ → List Move
-moves_of_step m cpu = let w = waiting_at m cpu in moves_in m cpu w.ops w.done
+abbrev pub moves_of_step : Machine → List (Option Run) → ℕ → List Move
+moves_of_step m inside cpu = let w = waiting_at m cpu in moves_in m inside cpu w.ops w.done
 
 -- ---- what a step needs
 
@@ -368,6 +445,9 @@ CanTake AddCall hand words places = HandInWords hand words × HasRoom hand
 CanTake (SubtractBytes bytes) hand words places = HandInWords hand words × HasBytes bytes hand
 CanTake SubtractCall hand words places = HandInWords hand words × HasCall hand
 CanTake (Write key held next) hand words places = key < places
+CanTake (GoIn section) hand words places = Unit {0}
+CanTake (GoOut section) hand words places = Unit {0}
+CanTake Rest hand words places = Unit {0}
 
 -- each key that the op names has a place, and a split has parts
 abbrev pub KeysFit : Op → Type 0
@@ -376,3 +456,8 @@ KeysFit (Close key) = key < KEY_END
 KeysFit (Split key parts first) = (key < KEY_END) × (0 < parts) × (first + parts < KEY_END + 2)
 KeysFit (Swap one two) = (one < KEY_END) × (two < KEY_END)
 KeysFit (Trim key bytes) = key < KEY_END
+KeysFit (Enter section) = Unit {0}
+KeysFit (Leave section) = Unit {0}
+KeysFit (Load section) = Unit {0}
+KeysFit (Unload section) = Unit {0}
+KeysFit Clean = Unit {0}

@@ -2,8 +2,11 @@
 //! between two steps is safe.
 #![tactic(auto)]
 
+mod inside;
 pub mod laws;
 pub mod machine;
+mod managing;
+mod modules;
 pub mod op;
 mod pending;
 mod refusal;

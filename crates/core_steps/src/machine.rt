@@ -1,13 +1,14 @@
-//! The core: every CPU's words, hand and ops, and every place, on plain vectors.
+//! The core: every CPU's words, hand and ops, every place, and the modules, on plain vectors.
 
 ghost use Rattle.tag_model.specs.WordState.{word_place};
 ghost use Rattle.std.specs.Prelude.{[], slice_index, ◌≡◌, ℕ, ◌*◌, ◌+◌, ◌<◌, ◌≤◌, ◌↔◌, length, replicate, MatchOption, IfOk, OnOk, OnErr, IsErrOf, Some, None, slice_get, slice_index_or, slice_set, List, IsTrue};
 ghost use Rattle.tag_model.specs.Shape.{IsChecked};
-ghost use Rattle.tag_model.specs.StepRules.{Steps};
+ghost use Rattle.tag_model.specs.StepRules.{StepsWith};
 ghost use Rattle.tag_model.specs.Laws.{Safe};
 ghost use Rattle.core_steps.specs.declared.op.TheConstants.{MAX_QUEUED};
 ghost use Rattle.core_steps.specs.Machine.{waiting_at, nothing_waits, after_step, refusal_of, machine_of};
-ghost use Rattle.core_steps.specs.CoreState.{CanGo, words_after_step, with_op, words_at, total_of};
+ghost use Rattle.core_steps.specs.Modules.{inside_at, scene_at};
+ghost use Rattle.core_steps.specs.CoreState.{CanGo, words_after_step, modules_after_step, with_op, words_at, total_of};
 ghost use Rattle.tag_model.specs.declared.state.Held.TheVariants as held;
 
 use crate::op::{Actor, Event, KEY_END, MAX_QUEUED, Op, QueueError, StepRefused};
@@ -15,20 +16,24 @@ use crate::pending::Pending;
 use crate::refusal::first_refusal;
 use crate::step::{self, next_step};
 use crate::words::CpuWords;
+use crate::modules::Modules;
+use module_area::Book;
 use std::alloc::{AllocError, Global};
 use std::marker::Model;
 use tag_model::shape::Shape;
 use tag_model::state::{Hand, Held, Kind};
+use tag_section::Sections;
 
 /// The word machine.
 #[derive(Drop)]
 pub struct Core {
     shape: Shape,
-    kernel_len: u32,
+    sections: Sections,
     hands: Vec<Option<Hand>>,
     places: Vec<Held>,
     waiting: Vec<Pending>,
     words: Vec<CpuWords>,
+    modules: Modules,
 }
 
 impl Model for Core {
@@ -36,9 +41,9 @@ impl Model for Core {
 
     ghost Value = { CoreState };
 
-    ghost view = { λ c. record { shape = c.shape; kernel_len = c.kernel_len; machine = record { hands = c.hands.items; places = c.places.items; waiting = c.waiting.items }; words = c.words.items } };
+    ghost view = { λ c. record { shape = c.shape; sections = c.sections; machine = record { hands = c.hands.items; places = c.places.items; waiting = c.waiting.items }; words = c.words.items; modules = c.modules } };
 
-    ghost invariant = { λ c. IsCore (record { shape = c.shape; kernel_len = c.kernel_len; machine = record { hands = c.hands.items; places = c.places.items; waiting = c.waiting.items }; words = c.words.items }) };
+    ghost invariant = { λ c. IsCore (record { shape = c.shape; sections = c.sections; machine = record { hands = c.hands.items; places = c.places.items; waiting = c.waiting.items }; words = c.words.items; modules = c.modules }) };
 }
 
 fn no_hands(alloc: Global, cpus: u32) -> Result<Vec<Option<Hand>>, AllocError>
@@ -123,13 +128,14 @@ fn step_on(
     places: &mut [Held],
     waiting: &mut [Pending],
     words: &mut [CpuWords],
+    modules: &mut Modules,
 ) -> Result<Event, StepRefused>
-    requires { CanGo (machine_of hands.old places.old waiting.old) words.old cpu }
+    requires { CanGo (machine_of hands.old places.old waiting.old) modules.old words.old cpu }
     ensures answer { let m = machine_of hands.old places.old waiting.old in
-        MatchOption (refusal_of m cpu) (result ≡ Ok Event.Stepped) (λ r. result ≡ Err r) }
+        MatchOption (refusal_of m (scene_at modules.old cpu) cpu) (result ≡ Ok Event.Stepped) (λ r. result ≡ Err r) }
     ensures ok { let m = machine_of hands.old places.old waiting.old in
-        OnOk result ((machine_of hands.new places.new waiting.new ≡ after_step m cpu) × (words.new ≡ words_after_step m words.old cpu)) }
-    ensures err { OnErr result ((hands.new ≡ hands.old) × (places.new ≡ places.old) × (waiting.new ≡ waiting.old) × (words.new ≡ words.old)) }
+        OnOk result ((machine_of hands.new places.new waiting.new ≡ after_step m (inside_at modules.old cpu) cpu) × (words.new ≡ words_after_step m (inside_at modules.old cpu) words.old cpu) × (modules.new ≡ modules_after_step m modules.old cpu)) }
+    ensures err { OnErr result ((hands.new ≡ hands.old) × (places.new ≡ places.old) × (waiting.new ≡ waiting.old) × (words.new ≡ words.old) × (modules.new ≡ modules.old)) }
 {
     if cpu >= waiting.len() {
         return Err(StepRefused::NoStep);
@@ -139,19 +145,22 @@ fn step_on(
     };
     let done = waiting[cpu].done();
     if done == 0
-        && let Some(refused) = first_refusal(op, places, waiting)
+        && let Some(refused) = first_refusal(op, places, waiting, modules, cpu)
     {
         return Err(refused);
     }
-    let step = next_step(op, done, hands[cpu], places);
+    let step = next_step(op, done, hands[cpu], places, modules.inside(cpu));
     step::take(step, &mut words[cpu], &mut hands[cpu], places);
+    modules.take(step, cpu);
     waiting[cpu].advance(op);
     Ok(Event::Stepped)
 }
 
 impl Core {
-    ghost use Rattle.core_steps.specs.CoreState.{CoreState, IsCore, IsActor, IsOp, fresh, queued, ops_of, refused, stepped, word_state, total_of, word_at};
-    ghost use Rattle.core_steps.specs.StepsLeft.{steps_left, cpu_steps_left};
+    ghost use Rattle.module_area.specs.Area.{IsBook};
+    ghost use Rattle.core_steps.specs.CoreState.{CoreState, IsCore, IsActor, IsOp, IsManagerOp, IsOpOf, SectionsFitShape, fresh, queued, ops_of, refused, stepped, event_of, reads_of, state_after, word_state, total_of, word_at};
+    ghost use Rattle.core_steps.specs.Release.{IfReleases};
+    ghost use Rattle.core_steps.specs.StepsLeft.{steps_left, cpu_steps_left, manager_steps_left};
     ghost use Rattle.core_steps.specs.Moved.{HasMoved, moved_on};
     ghost use Rattle.tag_model.specs.Moves.{Move};
     ghost use Rattle.std.specs.Prelude.{sum_by};
@@ -159,39 +168,40 @@ impl Core {
     ghost use Rattle.tag_model.specs.WordState.{counted};
     ghost use Rattle.tag_model.specs.declared.state.Kind.TheVariants.{Bytes, Calls};
 
-    /// All words are 0, no key holds anything, and nothing is queued.
-    pub fn start(alloc: Global, shape: Shape, kernel_len: u32) -> Result<Core, AllocError>
+    /// All words are 0, no key holds anything, no module is loaded, and nothing is queued.
+    pub fn new(alloc: Global, shape: Shape, sections: Sections) -> Result<Core, AllocError>
         requires shape { IsChecked shape }
-        requires some_tag { 0 < kernel_len }
-        requires kernel { kernel_len ≤ shape.kernel_tags }
-        ensures { IfOk result (λ core. core ≡ fresh shape kernel_len) }
+        requires sections { SectionsFitShape shape sections }
+        ensures { IfOk result (λ core. core ≡ fresh shape sections) }
     {
         Ok(Core {
             shape,
-            kernel_len,
             hands: no_hands(alloc, shape.cpus)?,
             places: empty_places(alloc, KEY_END)?,
             waiting: no_ops(alloc, shape.cpus)?,
             words: no_words(alloc, shape.cpus, shape.tags)?,
+            modules: Modules::new(alloc, shape, sections.count())?,
+            sections,
         })
     }
 
     /// Puts the op behind those that the actor has queued or under way.
     pub fn queue(&mut self, actor: Actor, op: Op) -> Result<(), QueueError>
         requires actor { IsActor self.old actor }
-        requires op { IsOp self.old.kernel_len op }
+        requires op { IsOpOf self.old.sections actor op }
         ensures ok { OnOk result (self.new ≡ queued self.old actor op) }
         ensures full { (result ≡ Err QueueError.QueueFull) ↔ (MAX_QUEUED ≤ length (ops_of self.old actor)) }
         ensures err { OnErr result (self.new ≡ self.old) }
     {
         match actor {
             Actor::Cpu(cpu) => self.queue_on(cpu, op),
+            Actor::Manager => self.queue_for_manager(op),
         }
     }
 
     fn queue_on(&mut self, cpu: u32, op: Op) -> Result<(), QueueError>
         requires cpu { cpu < self.old.shape.cpus }
-        requires op { IsOp self.old.kernel_len op }
+        requires op { IsOp self.old.sections op }
         ensures ok { OnOk result (self.new ≡ queued self.old (Actor.Cpu cpu) op) }
         ensures full { (result ≡ Err QueueError.QueueFull) ↔ (MAX_QUEUED ≤ length (ops_of self.old (Actor.Cpu cpu))) }
         ensures err { OnErr result (self.new ≡ self.old) }
@@ -199,30 +209,41 @@ impl Core {
         push_op(&mut self.waiting[cpu as usize], op)
     }
 
+    fn queue_for_manager(&mut self, op: Op) -> Result<(), QueueError>
+        requires { IsManagerOp self.old.sections op }
+        ensures ok { OnOk result (self.new ≡ queued self.old Actor.Manager op) }
+        ensures full { (result ≡ Err QueueError.QueueFull) ↔ (MAX_QUEUED ≤ length (ops_of self.old Actor.Manager)) }
+        ensures err { OnErr result (self.new ≡ self.old) }
+    {
+        self.modules.queue(op)
+    }
+
     /// Takes the next step of the actor's first op.
     pub fn go(&mut self, actor: Actor) -> Result<Event, StepRefused>
-        // Each refusal comes exactly at its state.
-        ensures answer { MatchOption (refused self.old actor) (result ≡ Ok Event.Stepped) (λ r. result ≡ Err r) }
+        // Each refusal comes exactly at its state, and each event.
+        ensures answer { MatchOption (refused self.old actor) (result ≡ Ok (event_of self.old actor)) (λ r. result ≡ Err r) }
         ensures ok { OnOk result (self.new ≡ stepped self.old actor) }
         ensures err { OnErr result (self.new ≡ self.old) }
         // A step that is taken is one of the step rules, and every state is safe.
-        ensures row { OnOk result (Steps self.old.shape (word_state self.old) (word_state self.new)) }
+        ensures row { (reads : ℕ) → OnOk result (StepsWith self.old.shape (state_after reads self.old) (state_after (reads + reads_of self.old actor) self.new)) }
         ensures safe { Safe self.new.shape (word_state self.new) }
-        ensures left { OnOk result (steps_left self.old actor ≡ steps_left self.new actor + 1) }
+        ensures left { OnOk result (steps_left self.new actor < steps_left self.old actor) }
+        // A module is released only where it is dead, and no place and no hand names it.
+        ensures released { IfOk result (IfReleases self.old) }
         // Words stay the sums of the moves.
         ensures moved { (moves : List Move) → HasMoved self.old moves → OnOk result (self.new ≡ moved_on self.old actor moves) }
     {
         match actor {
             Actor::Cpu(cpu) => self.go_on(cpu),
+            Actor::Manager => self.manage(),
         }
     }
 
     fn go_on(&mut self, cpu: u32) -> Result<Event, StepRefused>
-        ensures answer { MatchOption (refusal_of self.old.machine cpu) (result ≡ Ok Event.Stepped) (λ r. result ≡ Err r) }
+        ensures answer { MatchOption (refused self.old (Actor.Cpu cpu)) (result ≡ Ok Event.Stepped) (λ r. result ≡ Err r) }
         ensures ok { OnOk result (self.new ≡ stepped self.old (Actor.Cpu cpu)) }
         ensures err { OnErr result (self.new ≡ self.old) }
-        ensures row { OnOk result (Steps self.old.shape (word_state self.old) (word_state self.new)) }
-        ensures safe { Safe self.new.shape (word_state self.new) }
+        ensures row { (reads : ℕ) → OnOk result (StepsWith self.old.shape (state_after reads self.old) (state_after reads self.new)) }
         ensures left { OnOk result (cpu_steps_left self.old.machine cpu ≡ cpu_steps_left self.new.machine cpu + 1) }
         ensures moved { (moves : List Move) → HasMoved self.old moves → OnOk result (self.new ≡ moved_on self.old (Actor.Cpu cpu) moves) }
     {
@@ -232,7 +253,32 @@ impl Core {
             self.places.as_mut_slice(),
             self.waiting.as_mut_slice(),
             self.words.as_mut_slice(),
+            &mut self.modules,
         )
+    }
+
+    fn manage(&mut self) -> Result<Event, StepRefused>
+        ensures answer { MatchOption (refused self.old Actor.Manager) (result ≡ Ok (event_of self.old Actor.Manager)) (λ r. result ≡ Err r) }
+        ensures ok { OnOk result (self.new ≡ stepped self.old Actor.Manager) }
+        ensures err { OnErr result (self.new ≡ self.old) }
+    {
+        self.modules
+            .manage(self.shape, &self.sections, self.words.as_slice())
+    }
+
+    /// The modules that are loaded or dead.
+    pub fn book(&self) -> &Book
+        ensures value { result.now ≡ self.now.modules.list.area }
+        ensures formed { IsBook result.now }
+    {
+        self.modules.list().book()
+    }
+
+    /// The sections that the core was made with.
+    pub fn sections(&self) -> &Sections
+        ensures { result.now ≡ self.now.sections }
+    {
+        &self.sections
     }
 
     /// How many CPUs there are.
@@ -249,6 +295,7 @@ impl Core {
     {
         match actor {
             Actor::Cpu(cpu) => self.is_idle(cpu),
+            Actor::Manager => self.is_manager_idle(),
         }
     }
 
@@ -257,6 +304,13 @@ impl Core {
         ensures left { IsTrue result ↔ (cpu_steps_left self.now.machine cpu ≡ 0) }
     {
         is_idle(self.waiting.as_slice(), cpu as usize)
+    }
+
+    fn is_manager_idle(&self) -> bool
+        ensures empty { IsTrue result ↔ (self.now.modules.manager.ops ≡ []) }
+        ensures left { IsTrue result ↔ (manager_steps_left self.now.shape self.now.modules ≡ 0) }
+    {
+        self.modules.is_idle()
     }
 
     /// The tag's byte words and call words, added over the CPUs. They wrap.

@@ -1,6 +1,7 @@
 //! What actors do, and what a step of theirs answers.
 
 use std::alloc::AllocError;
+use tag_model::state::Kind;
 
 /// Keys are from 1 up to, and without, this.
 pub const KEY_END: u32 = 65_536;
@@ -15,6 +16,8 @@ pub const MAX_PARTS: u32 = 1_024;
 #[derive(Clone, Copy, Debug, PartialEq, Eq)]
 pub enum Actor {
     Cpu(u32),
+    /// Loads and unloads modules.
+    Manager,
 }
 
 /// What an actor does, in several steps.
@@ -48,12 +51,50 @@ pub enum Op {
         key: u32,
         bytes: u64,
     },
+    /// The CPU begins to run inside a section's module.
+    Enter {
+        section: u32,
+    },
+    /// The CPU ends to run inside a section's module.
+    Leave {
+        section: u32,
+    },
+    /// The manager loads a section as a module.
+    Load {
+        section: u32,
+    },
+    /// The manager marks a section's module dead, and sweeps it.
+    Unload {
+        section: u32,
+    },
+    /// The manager sweeps all dead modules.
+    Clean,
+}
+
+/// Which op a sweep is of.
+#[derive(Clone, Copy, Debug, PartialEq, Eq)]
+pub enum Cause {
+    Unload,
+    Clean,
 }
 
 /// What a step that was taken tells.
 #[derive(Clone, Copy, Debug, PartialEq, Eq)]
 pub enum Event {
     Stepped,
+    /// A module's range is released.
+    Released {
+        section: u32,
+        by: Cause,
+    },
+    /// A module's range is kept, since the words of one of its tags don't sum up to 0.
+    Kept {
+        section: u32,
+        index: u32,
+        kind: Kind,
+        sum: u64,
+        by: Cause,
+    },
 }
 
 /// Why a step isn't taken.
@@ -61,10 +102,26 @@ pub enum Event {
 pub enum StepRefused {
     /// The actor's queue is empty.
     NoStep,
+    /// The manager holds the module list.
+    ListHeld,
     /// The key has no reference, or an op under way names it.
     NotLive(u32),
     /// The key holds something, or an op under way names it.
     KeyUsed(u32),
+    /// The CPU isn't inside the section's module.
+    NotRunning(u32),
+    /// The CPU is inside the section's module.
+    Inside(u32),
+    /// The section has no loaded module.
+    NotLoaded(u32),
+    /// The section has a loaded module.
+    AlreadyLoaded(u32),
+    /// So many CPUs are inside the module.
+    Busy(u32),
+    /// The module list is full, or the last id is given.
+    Full,
+    /// No range of the area is free for the module.
+    NoRoom,
     /// The size can't be divided into so many equal parts.
     Uneven,
     /// A trim takes no fewer bytes than the reference has.

@@ -2,8 +2,12 @@
 
 ghost use Rattle.std.specs.Prelude.{◌≡◌, ◌+◌, ◌<◌, length};
 ghost use Rattle.core_steps.specs.declared.op.TheConstants.{KEY_END};
-ghost use Rattle.core_steps.specs.Machine.{is_reserved, reserves, names_key, held_at, holds_nothing, is_counted, size_of, is_used, is_live, used_key, is_new_key, open_refusal, close_refusal, split_refusal, swap_refusal, trim_refusal, first_refusal, KeysFit};
+ghost use Rattle.core_steps.specs.Machine.{is_reserved, reserves, names_key, held_at, holds_nothing, is_counted, size_of, is_used, is_live, used_key, is_new_key, open_refusal, close_refusal, split_refusal, swap_refusal, trim_refusal, enter_refusal, leave_refusal, first_refusal, KeysFit};
+ghost use Rattle.core_steps.specs.Modules.{inside_at, scene_at};
+ghost use Rattle.core_steps.specs.CoreState.{SectionsFit};
 
+use crate::inside::Inside;
+use crate::modules::Modules;
 use crate::op::{Op, StepRefused};
 use crate::pending::Pending;
 use tag_model::state::Held;
@@ -37,6 +41,7 @@ fn names_key(op: Op, key: u32) -> bool
             first,
         } => named == key || is_new_key(key, parts, first),
         Op::Swap { one, two } => one == key || two == key,
+        Op::Enter { .. } | Op::Leave { .. } | Op::Load { .. } | Op::Unload { .. } | Op::Clean => false,
     }
 }
 
@@ -99,12 +104,22 @@ fn used_key(parts: u32, first: u32, places: &[Held], waiting: &[Pending]) -> Opt
     None
 }
 
-fn open_refusal(key: u32, places: &[Held], waiting: &[Pending]) -> Option<StepRefused>
-    requires { key < length places.now }
-    ensures { result ≡ open_refusal places.now waiting.now key }
+fn open_refusal(
+    key: u32,
+    section: u32,
+    places: &[Held],
+    waiting: &[Pending],
+    inside: &Inside,
+) -> Option<StepRefused>
+    requires key { key < length places.now }
+    requires section { section < length inside.now }
+    ensures { result ≡ open_refusal places.now waiting.now inside.now key section }
 {
     if is_used(key, places, waiting) {
         return Some(StepRefused::KeyUsed(key));
+    }
+    if inside.is_outside(section) {
+        return Some(StepRefused::NotRunning(section));
     }
     None
 }
@@ -171,17 +186,61 @@ fn trim_refusal(key: u32, bytes: u64, places: &[Held], waiting: &[Pending]) -> O
     None
 }
 
+fn enter_refusal(section: u32, modules: &Modules, cpu: usize) -> Option<StepRefused>
+    requires cpu { cpu < length modules.now.inside }
+    requires section { section < length (inside_at modules.now cpu) }
+    ensures { result ≡ enter_refusal (scene_at modules.now cpu) section }
+{
+    if modules.is_held() {
+        return Some(StepRefused::ListHeld);
+    }
+    if modules.loaded(section).is_none() {
+        return Some(StepRefused::NotLoaded(section));
+    }
+    if modules.inside(cpu).run(section).is_some() {
+        return Some(StepRefused::Inside(section));
+    }
+    None
+}
+
+fn leave_refusal(section: u32, modules: &Modules, cpu: usize) -> Option<StepRefused>
+    requires cpu { cpu < length modules.now.inside }
+    requires section { section < length (inside_at modules.now cpu) }
+    ensures { result ≡ leave_refusal (scene_at modules.now cpu) section }
+{
+    if modules.is_held() {
+        return Some(StepRefused::ListHeld);
+    }
+    if modules.inside(cpu).run(section).is_none() {
+        return Some(StepRefused::NotRunning(section));
+    }
+    None
+}
+
 /// Why the op's first step is refused, if it is.
-pub fn first_refusal(op: Op, places: &[Held], waiting: &[Pending]) -> Option<StepRefused>
+pub fn first_refusal(
+    op: Op,
+    places: &[Held],
+    waiting: &[Pending],
+    modules: &Modules,
+    cpu: usize,
+) -> Option<StepRefused>
     requires keys { KeysFit op }
     requires places { length places.now ≡ KEY_END }
-    ensures { result ≡ first_refusal places.now waiting.now op }
+    requires cpu { cpu < length modules.now.inside }
+    requires sections { SectionsFit op (length (inside_at modules.now cpu)) }
+    ensures { result ≡ first_refusal places.now waiting.now (scene_at modules.now cpu) op }
 {
     match op {
-        Op::Open { key, .. } => open_refusal(key, places, waiting),
+        Op::Open { key, section, .. } => {
+            open_refusal(key, section, places, waiting, modules.inside(cpu))
+        }
         Op::Close { key } => close_refusal(key, places, waiting),
         Op::Split { key, parts, first } => split_refusal(key, parts, first, places, waiting),
         Op::Swap { one, two } => swap_refusal(one, two, places, waiting),
         Op::Trim { key, bytes } => trim_refusal(key, bytes, places, waiting),
+        Op::Enter { section } => enter_refusal(section, modules, cpu),
+        Op::Leave { section } => leave_refusal(section, modules, cpu),
+        Op::Load { .. } | Op::Unload { .. } | Op::Clean => None,
     }
 }

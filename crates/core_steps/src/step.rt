@@ -4,7 +4,9 @@ ghost use Rattle.std.specs.Prelude.{◌≡◌, ◌+◌, ◌*◌, ◌^◌, ◌<�
 ghost use Rattle.tag_model.specs.StepRules.{without_call};
 ghost use Rattle.core_steps.specs.declared.op.TheConstants.{KEY_END};
 ghost use Rattle.core_steps.specs.Machine.{step_of, open_step, close_step, split_step, part_key, share_step, share_of, rest_of, swap_step, trim_step, clear_step, put_step, in_hand, put_down, bytes_in, step_count, words_after, hand_after, places_after, CanTake, KeysFit, HasCall, held_at};
+ghost use Rattle.core_steps.specs.CoreState.{SectionsFit, TagFits};
 
+use crate::inside::Inside;
 use crate::op::Op;
 use crate::words::CpuWords;
 use tag_model::state::{Hand, Held, Kind, Tag};
@@ -34,6 +36,16 @@ pub enum WordStep {
         held: Held,
         hand: Option<Hand>,
     },
+    /// The CPU begins to run inside a section's module.
+    GoIn {
+        section: u32,
+    },
+    /// The CPU ends to run inside a section's module.
+    GoOut {
+        section: u32,
+    },
+    /// Of an op that no CPU has.
+    Rest,
 }
 
 /// How many steps the op takes.
@@ -43,46 +55,50 @@ pub fn step_count(op: Op) -> u64
     match op {
         Op::Open { .. } | Op::Close { .. } | Op::Swap { .. } | Op::Trim { .. } => 3,
         Op::Split { parts, .. } => 2 * u64::from(parts),
+        Op::Enter { .. } | Op::Leave { .. } | Op::Load { .. } | Op::Unload { .. } | Op::Clean => 1,
     }
 }
 
 /// The step that comes after so many.
-pub fn next_step(op: Op, done: u64, hand: Option<Hand>, places: &[Held]) -> WordStep
+pub fn next_step(
+    op: Op,
+    done: u64,
+    hand: Option<Hand>,
+    places: &[Held],
+    inside: &Inside,
+) -> WordStep
     requires keys { KeysFit op }
+    requires sections { SectionsFit op (length inside.now) }
     requires under_way { done < step_count op }
     requires calls { HasCall hand }
     requires places { length places.now ≡ KEY_END }
-    ensures { result ≡ step_of op done hand places.now }
+    requires tag { TagFits op inside.now }
+    ensures { result ≡ step_of op done hand places.now inside.now }
 {
     match op {
         Op::Open {
             key,
+            section,
             index,
             size,
-            ..
-        } => open_step(key, index, size, done),
+        } => open_step(key, inside.tag(section, index), size, done, hand),
         Op::Close { key } => close_step(key, done, hand, places),
         Op::Split { key, parts, first } => split_step(key, parts, first, done, hand, places),
         Op::Swap { one, two } => swap_step(one, two, done, hand, places),
         Op::Trim { key, bytes } => trim_step(key, bytes, done, hand, places),
+        Op::Enter { section } => WordStep::GoIn { section },
+        Op::Leave { section } => WordStep::GoOut { section },
+        Op::Load { .. } | Op::Unload { .. } | Op::Clean => WordStep::Rest,
     }
 }
 
-fn open_step(key: u32, index: u32, size: u64, done: u64) -> WordStep
-    ensures { result ≡ open_step key index size done }
+fn open_step(key: u32, tag: Tag, size: u64, done: u64, hand: Option<Hand>) -> WordStep
+    ensures { result ≡ open_step key tag size done hand }
 {
-    let tag = Tag {
-        number: index,
-        module: 0,
-    };
     match done {
         0 => WordStep::BeginAllocation { tag },
         1 => WordStep::AddBytes { size },
-        _ => WordStep::Write {
-            key,
-            held: Held::Counted { tag, size },
-            hand: None,
-        },
+        _ => put_step(key, hand),
     }
 }
 
@@ -290,6 +306,7 @@ pub fn take(step: WordStep, words: &mut CpuWords, hand: &mut Option<Hand>, place
             places[key as usize] = held;
             *hand = next;
         }
+        WordStep::GoIn { .. } | WordStep::GoOut { .. } | WordStep::Rest => {}
     }
 }
 

@@ -1,7 +1,7 @@
 use Rattle.std.proofs.Common.{refl}
 use Rattle.core_steps.specs.CoreState.{no_places}
 use Rattle.core_steps.proofs.Fresh.{core_fresh}
-use Rattle.core_steps.proofs.machine.Core.start.Goals as goal
+use Rattle.core_steps.proofs.machine.Core.new.Goals as goal
 
 pub invariant_of-result : goal.invariant_of-result
 invariant_of-result c =

@@ -1,0 +1,38 @@
+-- What a release finds: the module is dead, and no place and no hand names it, or a tag of its range.
+use Rattle.std.specs.Prelude.{◌≡◌, ◌≢◌, ℕ, ◌+◌, ◌<◌, ◌≤◌, Some, None, IsSomeAnd}
+use Rattle.tag_model.specs.declared.state.Tag.{Tag}
+use Rattle.tag_model.specs.declared.state.Hand.{Hand}
+use Rattle.tag_model.specs.declared.state.Held.TheVariants as held
+use Rattle.module_area.specs.declared.entry.Entry.{Entry}
+use Rattle.module_area.specs.declared.entry.State.TheVariants.{Dead}
+use Rattle.module_area.specs.Entries.{Covers, entry_of}
+use Rattle.core_list.specs.declared.list.Next.TheVariants.{Release}
+use Rattle.core_list.specs.ListState.{next_of}
+use Rattle.core_steps.specs.declared.op.Cause.{Cause}
+use Rattle.core_steps.specs.declared.op.Event.{Event}
+use Rattle.core_steps.specs.declared.op.Event.TheVariants.{Stepped, Released, Kept}
+use Rattle.core_steps.specs.Machine.{held_at, hand_at}
+use Rattle.core_steps.specs.CoreState.{CoreState}
+
+-- the tag is of the module, or of its range
+abbrev pub Names : Tag → Entry → Type 0
+Names tag e = (tag.module ≡ e.id) ⊎ Covers e tag.number
+
+pub record NothingNames (s : CoreState) (e : Entry) : Type 0 where
+  pub places : (key size : ℕ) (tag : Tag) → held_at s.machine.places key ≡ held.Counted tag size → ¬ Names tag e
+  pub hands : (cpu : ℕ) (hand : Hand) → hand_at s.machine cpu ≡ Some hand → ¬ Names hand.tag e
+
+-- the module that the next step of the sweep releases
+pub record IsReleasable (s : CoreState) (section : ℕ) : Type 0 where
+  pub entry : Entry
+  pub of_section : entry.section ≡ section
+  pub next : next_of s.modules.list.sweep ≡ Release entry.id
+  pub listed : entry_of s.modules.list.area.entries entry.id ≡ Some entry
+  pub dead : entry.state ≡ Dead
+  pub free : NothingNames s entry
+
+-- a step that tells a release found the section's module so
+abbrev pub IfReleases : CoreState → Event → Type 0
+IfReleases s Stepped = Unit {0}
+IfReleases s (Released section by) = IsReleasable s section
+IfReleases s (Kept section index kind sum by) = Unit {0}

@@ -1,0 +1,323 @@
+//! The modules of the machine: who is inside which, the module list, and what the manager does.
+
+ghost use Rattle.std.specs.Prelude.{ℕ, ◌≡◌, ◌+◌, ◌*◌, ◌∷◌, List, ◌<◌, ◌≤◌, ◌↔◌, [], IsTrue, length, replicate, map, IfOk, OnOk, OnErr, MatchOption, Option, Some, None};
+ghost use Rattle.tag_model.specs.Shape.{IsChecked};
+ghost use Rattle.tag_model.specs.Laws.{sweep_fits};
+ghost use Rattle.tag_section.specs.Section.{Section};
+ghost use Rattle.module_area.specs.declared.book.TheConstants.{TAG_LIMIT};
+ghost use Rattle.module_area.specs.Entries.{entry_of};
+ghost use Rattle.core_list.specs.ListState.{IsList, records_of, loaded_entry, run_of, section_in, start_in};
+ghost use Rattle.core_steps.specs.declared.op.TheConstants.{MAX_QUEUED};
+ghost use Rattle.core_steps.specs.declared.op.Op.{Op};
+ghost use Rattle.core_steps.specs.Machine.{run_at};
+ghost use Rattle.core_steps.specs.Modules.{Modules, inside_at, scene_at, modules_after, manager_refusal, managed, manager_event, section_len, word_read, load_refused, cause_of, kept_by};
+ghost use Rattle.core_steps.specs.CoreState.{ListFits, CanManage, fresh_modules, with_managed, words_at};
+
+use crate::inside::Inside;
+use crate::managing::Managing;
+use crate::op::{Cause, Event, MAX_QUEUED, Op, QueueError, StepRefused};
+use crate::step::WordStep;
+use crate::words::CpuWords;
+use core_list::list::{CoreList, Next};
+use module_area::{AreaError, Entry};
+use std::alloc::{AllocError, Global};
+use std::marker::Model;
+use tag_model::shape::Shape;
+use tag_model::state::{Reader, Run, Stop};
+use tag_section::Sections;
+
+/// The modules, by CPU and section, with their list and their manager.
+#[derive(Drop)]
+pub struct Modules {
+    inside: Vec<Inside>,
+    list: CoreList,
+    manager: Managing,
+}
+
+impl Model for Modules {
+    ghost use Rattle.core_steps.specs.Modules.{Modules};
+
+    ghost Value = { Modules };
+
+    ghost view = { λ m. record { inside = m.inside.items; list = m.list; manager = m.manager } };
+}
+
+fn no_runs(alloc: Global, cpus: u32, sections: u32) -> Result<Vec<Inside>, AllocError>
+    ensures { IfOk result (λ v. v.items ≡ replicate cpus (replicate sections None)) }
+{
+    let mut inside = Vec::with_capacity(alloc, cpus as usize)?;
+    for _cpu in 0..cpus {
+        inside.push(Inside::new(alloc, sections)?)?;
+    }
+    Ok(inside)
+}
+
+/// A run on the module of an entry.
+fn run_on(entry: Entry) -> Run
+    ensures { result ≡ run_of entry }
+{
+    Run {
+        id: entry.id,
+        section: entry.section,
+        start: entry.start,
+        length: entry.length,
+    }
+}
+
+/// The word that a sweep reads next.
+fn word_read(words: &[CpuWords], reader: Reader) -> u64
+    requires cpu { reader.cpu < length words.now }
+    requires tag { 2 * reader.tag + 1 < length (words_at words.now reader.cpu) }
+    ensures { result ≡ word_read words.now reader }
+{
+    words[reader.cpu as usize].read(reader.pass, reader.tag)
+}
+
+/// Why a load is refused.
+fn load_refused(section: u32, why: AreaError) -> StepRefused
+    ensures { result ≡ load_refused section why }
+{
+    match why {
+        AreaError::SameName => StepRefused::AlreadyLoaded(section),
+        AreaError::BookFull => StepRefused::Full,
+        AreaError::NoRoom => StepRefused::NoRoom,
+        AreaError::NoSection => StepRefused::NotLoaded(section),
+    }
+}
+
+/// Which op a sweep is of.
+fn cause_of(op: Op) -> Cause
+    ensures { (ops : List Op) → result ≡ cause_of (op ∷ ops) }
+{
+    match op {
+        Op::Unload { .. } => Cause::Unload,
+        _ => Cause::Clean,
+    }
+}
+
+impl Modules {
+    /// No module is loaded, and no CPU is inside one.
+    pub fn new(alloc: Global, shape: Shape, sections: u32) -> Result<Modules, AllocError>
+        requires { IsChecked shape }
+        ensures { IfOk result (λ modules. modules ≡ fresh_modules shape sections) }
+    {
+        Ok(Modules {
+            inside: no_runs(alloc, shape.cpus, sections)?,
+            list: CoreList::new(alloc, shape.kernel_tags, shape.tags - shape.kernel_tags)?,
+            manager: Managing::new(alloc),
+        })
+    }
+
+    /// The module list.
+    pub fn list(&self) -> &CoreList
+        ensures value { result.now ≡ self.now.list }
+        ensures holds { IsList self.now.list }
+    {
+        &self.list
+    }
+
+    /// The CPU's runs.
+    pub fn inside(&self, cpu: usize) -> &Inside
+        requires { cpu < length self.now.inside }
+        ensures { result.now ≡ inside_at self.now cpu }
+    {
+        &self.inside[cpu]
+    }
+
+    /// Whether the manager holds the module list.
+    pub fn is_held(&self) -> bool
+        ensures { result ≡ self.now.manager.under_way }
+    {
+        self.manager.is_under_way()
+    }
+
+    /// Whether the manager has nothing queued or under way.
+    pub fn is_idle(&self) -> bool
+        ensures { IsTrue result ↔ (self.now.manager.ops ≡ []) }
+    {
+        self.manager.is_empty()
+    }
+
+    /// Puts the op behind those that the manager has queued or under way.
+    pub fn queue(&mut self, op: Op) -> Result<(), QueueError>
+        ensures ok { OnOk result (self.new ≡ record self.old { manager = with_managed self.old.manager op }) }
+        ensures full { (result ≡ Err QueueError.QueueFull) ↔ (MAX_QUEUED ≤ length self.old.manager.ops) }
+        ensures err { OnErr result (self.new ≡ self.old) }
+    {
+        if self.manager.len() >= MAX_QUEUED {
+            return Err(QueueError::QueueFull);
+        }
+        match self.manager.push(op) {
+            Ok(()) => Ok(()),
+            Err(refused) => Err(QueueError::Memory(refused)),
+        }
+    }
+
+    /// What a CPU's step changes: it goes into a module, or out of it.
+    pub fn take(&mut self, step: WordStep, cpu: usize)
+        requires { ListFits step self.old cpu }
+        ensures { self.new ≡ modules_after step self.old cpu }
+    {
+        match step {
+            WordStep::GoIn { section } => self.go_in(cpu, section),
+            WordStep::GoOut { section } => self.go_out(cpu, section),
+            WordStep::BeginAllocation { .. }
+            | WordStep::AddBytes { .. }
+            | WordStep::AddCall
+            | WordStep::SubtractBytes { .. }
+            | WordStep::SubtractCall
+            | WordStep::Write { .. }
+            | WordStep::Rest => {}
+        }
+    }
+
+    /// The entry of the section's loaded module.
+    pub fn loaded(&self, section: u32) -> Option<Entry>
+        ensures { result ≡ loaded_entry section self.now.list }
+    {
+        let book = self.list.book();
+        match book.loaded(section) {
+            Some(id) => book.get(id),
+            None => None,
+        }
+    }
+
+    fn go_in(&mut self, cpu: usize, section: u32)
+        requires { ListFits (WordStep.GoIn section) self.old cpu }
+        ensures { self.new ≡ modules_after (WordStep.GoIn section) self.old cpu }
+    {
+        if let Some(entry) = self.loaded(section) {
+            self.list.enter(entry.id);
+            self.inside[cpu].set(section, Some(run_on(entry)));
+        }
+    }
+
+    fn go_out(&mut self, cpu: usize, section: u32)
+        requires { ListFits (WordStep.GoOut section) self.old cpu }
+        ensures { self.new ≡ modules_after (WordStep.GoOut section) self.old cpu }
+    {
+        if let Some(run) = self.inside[cpu].run(section) {
+            self.list.leave(run.id);
+            self.inside[cpu].set(section, None);
+        }
+    }
+
+    /// Takes the manager's next step, or says why it is refused.
+    pub fn manage(
+        &mut self,
+        shape: Shape,
+        sections: &Sections,
+        words: &[CpuWords],
+    ) -> Result<Event, StepRefused>
+        requires { CanManage shape sections.now words.now self.old }
+        ensures answer { MatchOption (manager_refusal sections.now self.old) (result ≡ Ok (manager_event shape words.now self.old)) (λ why. result ≡ Err why) }
+        ensures ok { OnOk result (self.new ≡ managed shape sections.now words.now self.old) }
+        ensures err { OnErr result (self.new ≡ self.old) }
+    {
+        let Some(op) = self.manager.first() else {
+            return Err(StepRefused::NoStep);
+        };
+        if self.manager.is_under_way() {
+            return Ok(self.continue_sweep(shape, words, cause_of(op)));
+        }
+        self.begin(op, sections)?;
+        Ok(Event::Stepped)
+    }
+
+    /// The first step of an op.
+    fn begin(&mut self, op: Op, sections: &Sections) -> Result<(), StepRefused> {
+        match op {
+            Op::Load { section } => self.load(section, sections.len_of(section)),
+            Op::Unload { section } => self.unload(section),
+            Op::Clean => {
+                self.list.sweep();
+                self.go_on();
+                Ok(())
+            }
+            _ => Ok(()),
+        }
+    }
+
+    fn load(&mut self, section: u32, length: u32) -> Result<(), StepRefused> {
+        match self.list.load(section, length) {
+            Ok(()) => {
+                self.manager.end();
+                Ok(())
+            }
+            Err(why) => Err(load_refused(section, why)),
+        }
+    }
+
+    fn unload(&mut self, section: u32) -> Result<(), StepRefused> {
+        let Some(entry) = self.loaded(section) else {
+            return Err(StepRefused::NotLoaded(section));
+        };
+        if entry.users != 0 {
+            return Err(StepRefused::Busy(entry.users));
+        }
+        self.list.mark_dead(entry.id);
+        self.go_on();
+        Ok(())
+    }
+
+    /// The op goes on, or ends where nothing is left to read or to release.
+    fn go_on(&mut self) {
+        if self.list.next() == Next::Nothing {
+            self.manager.end();
+        } else {
+            self.manager.go_on();
+        }
+    }
+
+    /// The sweep reads a word, or releases a module.
+    fn continue_sweep(&mut self, shape: Shape, words: &[CpuWords], by: Cause) -> Event {
+        let event = match self.list.next() {
+            Next::Nothing => Event::Stepped,
+            Next::Read(reader) => {
+                let found = self.list.scan(shape, word_read(words, reader));
+                self.found_event(found, by)
+            }
+            Next::Release(id) => {
+                let section = self.section_of(id);
+                self.list.release();
+                Event::Released { section, by }
+            }
+        };
+        self.go_on();
+        event
+    }
+
+    /// The read that takes a module off the sweep's list is told.
+    fn found_event(&self, found: Option<Stop>, by: Cause) -> Event
+        ensures { result ≡ kept_by by self.now.list.area.entries found }
+    {
+        match found {
+            None => Event::Stepped,
+            Some(stop) => Event::Kept {
+                section: self.section_of(stop.id),
+                index: stop.tag.saturating_sub(self.start_of(stop.id)),
+                kind: stop.kind,
+                sum: stop.sum,
+                by,
+            },
+        }
+    }
+
+    fn section_of(&self, id: u32) -> u32
+        ensures { result ≡ section_in (entry_of self.now.list.area.entries id) }
+    {
+        match self.list.book().get(id) {
+            Some(entry) => entry.section,
+            None => 0,
+        }
+    }
+
+    fn start_of(&self, id: u32) -> u32
+        ensures { result ≡ start_in (entry_of self.now.list.area.entries id) }
+    {
+        match self.list.book().get(id) {
+            Some(entry) => entry.start,
+            None => 0,
+        }
+    }
+}
