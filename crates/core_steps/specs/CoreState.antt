@@ -27,7 +27,7 @@ use Rattle.core_steps.specs.declared.op.Actor.TheVariants as actor
 use Rattle.core_steps.specs.declared.op.StepRefused.{StepRefused}
 use Rattle.core_steps.specs.declared.op.TheConstants.{KEY_END, MAX_PARTS}
 use Rattle.core_steps.specs.Machine.{Waiting, Machine, nothing_waits, hand_at, held_at, waiting_at, run_at, tag_in, reserves, refusal_in, is_counted, bytes_in, refusal_of, after_step, words_after, step_of, step_count, KeysFit, HasCall, CanTake, part_key, is_new_key}
-use Rattle.core_steps.specs.Modules.{Managing, Modules, nothing_managed, inside_at, scene_at, manager_reads, section_len, modules_after, manager_refusal, managed, manager_event, is_nothing, word_in}
+use Rattle.core_steps.specs.Modules.{Managing, ModuleTable, nothing_managed, inside_at, scene_at, manager_reads, section_len, modules_after, manager_refusal, managed, manager_event, is_nothing, word_in}
 use Rattle.core_list.specs.ListState.{ListState, IsList, records_of, list_part, fresh_list, next_of, loaded_entry}
 use Rattle.module_area.specs.declared.entry.Entry.{Entry}
 use Rattle.module_area.specs.declared.entry.State.TheVariants.{Loaded}
@@ -40,7 +40,7 @@ pub record CoreState : Type 0 where
   pub sections : List Section
   pub machine : Machine
   pub words : List (List ℕ)
-  pub modules : Modules
+  pub modules : ModuleTable
 
 -- a CPU's words
 abbrev pub words_at : List (List ℕ) → ℕ → List ℕ
@@ -69,7 +69,7 @@ runs_in (None ∷ inside) = runs_in inside
 runs_in (Some r ∷ inside) = r ∷ runs_in inside
 
 -- the runs of each CPU
-abbrev pub runs_of : Modules → ℕ → List Run
+abbrev pub runs_of : ModuleTable → ℕ → List Run
 runs_of ms cpu = runs_in (inside_at ms cpu)
 
 -- the list and the next id
@@ -80,7 +80,7 @@ list_parts reads away list = Modules (list_part reads away list) ∷ NextId (lis
 unfoldable pub state_with : ℕ → List Run → Machine → List (List ℕ) → (ℕ → List Run) → ListState → List Part
 state_with reads away m words runs list = cpu_parts 0 m.hands words runs ++ (place_parts 0 m.places ++ list_parts reads away list)
 
-abbrev pub state_of : ℕ → Machine → List (List ℕ) → Modules → List Part
+abbrev pub state_of : ℕ → Machine → List (List ℕ) → ModuleTable → List Part
 state_of reads m words ms = state_with reads [] m words (runs_of ms) ms.list
 
 -- the word state of a core, after so many reads
@@ -103,12 +103,12 @@ words_stepped m inside words cpu (op ∷ ops) done = slice_set words cpu (words_
 abbrev pub words_after_step : Machine → List (Option Run) → List (List ℕ) → ℕ → List (List ℕ)
 words_after_step m inside words cpu = let w = waiting_at m cpu in words_stepped m inside words cpu w.ops w.done
 
-abbrev pub modules_stepped : Machine → Modules → ℕ → List Op → ℕ → Modules
+abbrev pub modules_stepped : Machine → ModuleTable → ℕ → List Op → ℕ → ModuleTable
 modules_stepped m ms cpu [] done = ms
 modules_stepped m ms cpu (op ∷ ops) done = modules_after (step_of op done (hand_at m cpu) m.places (inside_at ms cpu)) ms cpu
 
 -- the modules after the CPU's next step
-abbrev pub modules_after_step : Machine → Modules → ℕ → Modules
+abbrev pub modules_after_step : Machine → ModuleTable → ℕ → ModuleTable
 modules_after_step m ms cpu = let w = waiting_at m cpu in modules_stepped m ms cpu w.ops w.done
 
 abbrev pub stepped : CoreState → Actor → CoreState
@@ -166,7 +166,7 @@ HasUser list None = Unit {0}
 HasUser list (Some r) = IsSomeAnd (entry_of list.area.entries r.id) (λ entry. 0 < entry.users)
 
 -- the list can count a CPU that goes in or out
-abbrev pub ListFits : WordStep → Modules → ℕ → Type 0
+abbrev pub ListFits : WordStep → ModuleTable → ℕ → Type 0
 ListFits (BeginAllocation tag) ms cpu = Unit {0}
 ListFits (AddBytes size) ms cpu = Unit {0}
 ListFits AddCall ms cpu = Unit {0}
@@ -178,7 +178,7 @@ ListFits (GoOut section) ms cpu = (cpu < length ms.inside) × (section < length 
 ListFits Rest ms cpu = Unit {0}
 
 -- what a step of an op reads and writes is there
-abbrev pub CanStep : Machine → Modules → List (List ℕ) → ℕ → List Op → ℕ → Type 0
+abbrev pub CanStep : Machine → ModuleTable → List (List ℕ) → ℕ → List Op → ℕ → Type 0
 CanStep m ms words cpu [] done = Unit {0}
 CanStep m ms words cpu (op ∷ ops) done =
     KeysFit op × (done < step_count op) × HasCall (hand_at m cpu) × CanTake (step_of op done (hand_at m cpu) m.places (inside_at ms cpu)) (hand_at m cpu) (length (words_at words cpu)) (length m.places)
@@ -186,7 +186,7 @@ CanStep m ms words cpu (op ∷ ops) done =
     × (refusal_in m (scene_at ms cpu) (op ∷ ops) done ≡ None → ListFits (step_of op done (hand_at m cpu) m.places (inside_at ms cpu)) ms cpu)
 
 -- what the CPU's next step reads and writes is there
-pub record CanGo (m : Machine) (ms : Modules) (all : List (List ℕ)) (cpu : ℕ) : Type 0 where
+pub record CanGo (m : Machine) (ms : ModuleTable) (all : List (List ℕ)) (cpu : ℕ) : Type 0 where
   pub hands : length m.hands ≡ length m.waiting
   pub places : length m.places ≡ KEY_END
   pub words : length all ≡ length m.waiting
@@ -395,7 +395,7 @@ pub record IsMachine (cpus : ℕ) (sections : List Section) (m : Machine) : Type
   pub apart : (i j key : ℕ) → i < cpus → j < cpus → i ≢ j → IsTrue (reserves key (waiting_at m i)) → IsTrue (reserves key (waiting_at m j)) → ⊥
 
 -- what the manager's next step reads is there
-pub record CanManage (k : Shape) (sections : List Section) (words : List (List ℕ)) (ms : Modules) : Type 0 where
+pub record CanManage (k : Shape) (sections : List Section) (words : List (List ℕ)) (ms : ModuleTable) : Type 0 where
   pub checked : IsChecked k
   pub ops : AllByRecursion (IsManagerOp sections) ms.manager.ops
   pub some_tag : (section : ℕ) → section < length sections → 1 ≤ section_len sections section
@@ -416,7 +416,7 @@ pub record EntryFits (sections : List Section) (e : Entry) : Type 0 where
   pub of_module : IsModule sections e.section
   pub all_tags : e.length ≡ section_len sections e.section
 
-pub record AreModules (k : Shape) (sections : List Section) (ms : Modules) : Type 0 where
+pub record AreModules (k : Shape) (sections : List Section) (ms : ModuleTable) : Type 0 where
   pub cpus : length ms.inside ≡ k.cpus
   pub slots : (cpu : ℕ) → cpu < k.cpus → length (inside_at ms cpu) ≡ length sections
   pub runs : (cpu section : ℕ) (r : Run) → run_at (inside_at ms cpu) section ≡ Some r → RunFits k sections section r
@@ -452,7 +452,7 @@ abbrev pub fresh_machine : ℕ → Machine
 fresh_machine cpus = record { hands = replicate cpus None; places = no_places; waiting = replicate cpus nothing_waits }
 
 -- no CPU is inside a module, and none was loaded
-abbrev pub fresh_modules : Shape → ℕ → Modules
+abbrev pub fresh_modules : Shape → ℕ → ModuleTable
 fresh_modules k sections = record { inside = replicate k.cpus (replicate sections None); list = fresh_list k.kernel_tags (k.tags - k.kernel_tags); manager = nothing_managed }
 
 abbrev pub fresh : Shape → List Section → CoreState

@@ -33,7 +33,7 @@ pub record Managing : Type 0 where
   pub under_way : Bool
 
 -- by CPU and section, the runs of CPUs on modules; the list; the manager
-pub record Modules : Type 0 where
+pub record ModuleTable : Type 0 where
   pub inside : List (List (Option Run))
   pub list : ListState
   pub manager : Managing
@@ -41,11 +41,11 @@ pub record Modules : Type 0 where
 abbrev pub nothing_managed : Managing
 nothing_managed = record { ops = []; under_way = false }
 
-abbrev pub inside_at : Modules → ℕ → List (Option Run)
+abbrev pub inside_at : ModuleTable → ℕ → List (Option Run)
 inside_at ms cpu = slice_index_or ms.inside cpu []
 
 -- the manager holds the list from the first step of an unload or a clean to its last
-abbrev pub scene_at : Modules → ℕ → Scene
+abbrev pub scene_at : ModuleTable → ℕ → Scene
 scene_at ms cpu = record { held = ms.manager.under_way; list = ms.list; inside = inside_at ms cpu }
 
 -- how many tags a section has
@@ -54,20 +54,20 @@ section_len sections section = length (section_at sections section).tags
 
 -- ---- steps of a CPU
 
-abbrev pub with_inside : Modules → ℕ → ℕ → Option Run → ListState → Modules
+abbrev pub with_inside : ModuleTable → ℕ → ℕ → Option Run → ListState → ModuleTable
 with_inside ms cpu section run list = record ms { inside = slice_set ms.inside cpu (slice_set (inside_at ms cpu) section run); list = list }
 
 -- the CPU gets a run on the loaded module of the section, which gets a user
-abbrev pub goes_in : Modules → ℕ → ℕ → Option Entry → Modules
+abbrev pub goes_in : ModuleTable → ℕ → ℕ → Option Entry → ModuleTable
 goes_in ms cpu section None = ms
 goes_in ms cpu section (Some e) = with_inside ms cpu section (Some (run_of e)) (entered_list e.id ms.list)
 
 -- the CPU's run on the section's module ends, and the module has a user less
-abbrev pub goes_out : Modules → ℕ → ℕ → Option Run → Modules
+abbrev pub goes_out : ModuleTable → ℕ → ℕ → Option Run → ModuleTable
 goes_out ms cpu section None = ms
 goes_out ms cpu section (Some r) = with_inside ms cpu section None (left_list r.id ms.list)
 
-abbrev pub modules_after : WordStep → Modules → ℕ → Modules
+abbrev pub modules_after : WordStep → ModuleTable → ℕ → ModuleTable
 modules_after (BeginAllocation tag) ms cpu = ms
 modules_after (AddBytes size) ms cpu = ms
 modules_after AddCall ms cpu = ms
@@ -108,7 +108,7 @@ manager_refusal_in sections list [] under_way = Some NoStep
 manager_refusal_in sections list (op ∷ ops) under_way = if under_way then None else manager_first sections list op
 
 -- why the manager's next step is refused, if it is
-abbrev pub manager_refusal : List Section → Modules → Option StepRefused
+abbrev pub manager_refusal : List Section → ModuleTable → Option StepRefused
 manager_refusal sections ms = manager_refusal_in sections ms.list ms.manager.ops ms.manager.under_way
 
 -- ---- steps of the manager
@@ -122,15 +122,15 @@ is_nothing (Release id) = false
 abbrev pub managed_on : Op → List Op → ListState → Managing
 managed_on op ops list = if is_nothing (next_of list.sweep) then record { ops = ops; under_way = false } else record { ops = op ∷ ops; under_way = true }
 
-abbrev pub swept_on : Modules → Op → List Op → ListState → Modules
+abbrev pub swept_on : ModuleTable → Op → List Op → ListState → ModuleTable
 swept_on ms op ops list = record ms { list = list; manager = managed_on op ops list }
 
-abbrev pub unloads : Modules → Op → List Op → Option Entry → Modules
+abbrev pub unloads : ModuleTable → Op → List Op → Option Entry → ModuleTable
 unloads ms op ops None = ms
 unloads ms op ops (Some e) = swept_on ms op ops (dead_list e.id ms.list)
 
 -- the first step: load is over with it; unload marks dead and begins a sweep; clean begins a sweep of all that are dead
-abbrev pub begins_op : List Section → Modules → Op → List Op → Modules
+abbrev pub begins_op : List Section → ModuleTable → Op → List Op → ModuleTable
 begins_op sections ms (Load section) ops = record ms { list = loaded section (section_len sections section) ms.list; manager = record { ops = ops; under_way = false } }
 begins_op sections ms (Unload section) ops = unloads ms (Unload section) ops (loaded_entry section ms.list)
 begins_op sections ms Clean ops = swept_on ms Clean ops (swept_list ms.list)
@@ -156,13 +156,13 @@ sweep_goes k words list Nothing = list
 sweep_goes k words list (Read r) = scanned k (word_read words r) list
 sweep_goes k words list (Release id) = released list
 
-abbrev pub managed_by : Shape → List Section → List (List ℕ) → Modules → List Op → Bool → Modules
+abbrev pub managed_by : Shape → List Section → List (List ℕ) → ModuleTable → List Op → Bool → ModuleTable
 managed_by k sections words ms [] under_way = ms
 managed_by k sections words ms (op ∷ ops) under_way =
     if under_way then swept_on ms op ops (sweep_goes k words ms.list (next_of ms.list.sweep)) else begins_op sections ms op ops
 
 -- the modules after the manager's next step, which reads a word of these words
-abbrev pub managed : Shape → List Section → List (List ℕ) → Modules → Modules
+abbrev pub managed : Shape → List Section → List (List ℕ) → ModuleTable → ModuleTable
 managed k sections words ms = managed_by k sections words ms ms.manager.ops ms.manager.under_way
 
 -- ---- what a step of the manager tells
@@ -190,7 +190,7 @@ event_of_sweep k words list by (Read r) = kept_by by list.area.entries (found_at
 event_of_sweep k words list by (Release id) = Released (section_in (entry_of list.area.entries id)) by
 
 -- the read that finds a sum, and the release, are told
-abbrev pub manager_event : Shape → List (List ℕ) → Modules → Event
+abbrev pub manager_event : Shape → List (List ℕ) → ModuleTable → Event
 manager_event k words ms = if ms.manager.under_way then event_of_sweep k words ms.list (cause_of ms.manager.ops) (next_of ms.list.sweep) else Stepped
 
 -- how many words the manager's next step reads
@@ -199,5 +199,5 @@ words_read Nothing = 0
 words_read (Read r) = 1
 words_read (Release id) = 0
 
-abbrev pub manager_reads : Modules → ℕ
+abbrev pub manager_reads : ModuleTable → ℕ
 manager_reads ms = if ms.manager.under_way then words_read (next_of ms.list.sweep) else 0

@@ -8,7 +8,7 @@ use Rattle.tag_model.specs.Moves.{Move, moved_word}
 use Rattle.core_steps.specs.declared.op.Actor.{Actor}
 use Rattle.core_steps.specs.declared.op.Actor.TheVariants as actor
 use Rattle.core_steps.specs.Machine.{Machine, after_step, moves_of_step}
-use Rattle.core_steps.specs.Modules.{Modules, inside_at, managed}
+use Rattle.core_steps.specs.Modules.{ModuleTable, inside_at, managed}
 use Rattle.core_steps.specs.CoreState.{CoreState, modules_after_step}
 use Rattle.tag_section.specs.Section.{Section}
 
@@ -23,7 +23,7 @@ own_moved tags moves cpu = map (λ place. moved_word moves cpu (kind_at place) (
 unfoldable pub words_moved : ℕ → ℕ → List Move → List (List ℕ)
 words_moved cpus tags moves = map (own_moved tags moves) (range_with_len 0 cpus)
 
-abbrev pub core_of : Shape → List Section → Machine → Modules → List Move → CoreState
+abbrev pub core_of : Shape → List Section → Machine → ModuleTable → List Move → CoreState
 core_of shape sections machine modules moves = record { shape = shape; sections = sections; machine = machine; words = words_moved shape.cpus shape.tags moves; modules = modules }
 
 -- the core's words are the sums of these moves

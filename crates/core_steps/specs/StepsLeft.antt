@@ -6,7 +6,7 @@ use Rattle.core_steps.specs.declared.op.Op.{Op}
 use Rattle.core_steps.specs.declared.op.Actor.{Actor}
 use Rattle.core_steps.specs.declared.op.Actor.TheVariants as actor
 use Rattle.core_steps.specs.Machine.{Machine, waiting_at, step_count}
-use Rattle.core_steps.specs.Modules.{Modules}
+use Rattle.core_steps.specs.Modules.{ModuleTable}
 use Rattle.core_steps.specs.CoreState.{CoreState}
 
 -- of a CPU: the steps of its ops, but for those of the first that are done
@@ -22,7 +22,7 @@ most_left k list [] under_way = 0
 most_left k list (op ∷ ops) under_way = if under_way then sweep_steps k list + most_of_ops k ops else most_of_ops k (op ∷ ops)
 
 -- of the manager: at most so many
-abbrev pub manager_steps_left : Shape → Modules → ℕ
+abbrev pub manager_steps_left : Shape → ModuleTable → ℕ
 manager_steps_left k ms = most_left k ms.list ms.manager.ops ms.manager.under_way
 
 abbrev pub steps_left : CoreState → Actor → ℕ

@@ -16,7 +16,7 @@ use crate::pending::Pending;
 use crate::refusal::first_refusal;
 use crate::step::{self, next_step};
 use crate::words::CpuWords;
-use crate::modules::Modules;
+use crate::modules::ModuleTable;
 use module_area::Book;
 use std::alloc::{AllocError, Global};
 use std::marker::Model;
@@ -33,7 +33,7 @@ pub struct Core {
     places: Vec<Held>,
     waiting: Vec<Pending>,
     words: Vec<CpuWords>,
-    modules: Modules,
+    modules: ModuleTable,
 }
 
 impl Model for Core {
@@ -128,7 +128,7 @@ fn step_on(
     places: &mut [Held],
     waiting: &mut [Pending],
     words: &mut [CpuWords],
-    modules: &mut Modules,
+    modules: &mut ModuleTable,
 ) -> Result<Event, StepRefused>
     requires { CanGo (machine_of hands.old places.old waiting.old) modules.old words.old cpu }
     ensures answer { let m = machine_of hands.old places.old waiting.old in
@@ -180,7 +180,7 @@ impl Core {
             places: empty_places(alloc, KEY_END)?,
             waiting: no_ops(alloc, shape.cpus)?,
             words: no_words(alloc, shape.cpus, shape.tags)?,
-            modules: Modules::new(alloc, shape, sections.count())?,
+            modules: ModuleTable::new(alloc, shape, sections.count())?,
             sections,
         })
     }

@@ -10,7 +10,7 @@ ghost use Rattle.core_list.specs.ListState.{IsList, records_of, loaded_entry, ru
 ghost use Rattle.core_steps.specs.declared.op.TheConstants.{MAX_QUEUED};
 ghost use Rattle.core_steps.specs.declared.op.Op.{Op};
 ghost use Rattle.core_steps.specs.Machine.{run_at};
-ghost use Rattle.core_steps.specs.Modules.{Modules, inside_at, scene_at, modules_after, manager_refusal, managed, manager_event, section_len, word_read, load_refused, cause_of, kept_by};
+ghost use Rattle.core_steps.specs.Modules.{ModuleTable, inside_at, scene_at, modules_after, manager_refusal, managed, manager_event, section_len, word_read, load_refused, cause_of, kept_by};
 ghost use Rattle.core_steps.specs.CoreState.{ListFits, CanManage, fresh_modules, with_managed, words_at};
 
 use crate::inside::Inside;
@@ -28,16 +28,16 @@ use tag_section::Sections;
 
 /// The modules, by CPU and section, with their list and their manager.
 #[derive(Drop)]
-pub struct Modules {
+pub struct ModuleTable {
     inside: Vec<Inside>,
     list: CoreList,
     manager: Managing,
 }
 
-impl Model for Modules {
-    ghost use Rattle.core_steps.specs.Modules.{Modules};
+impl Model for ModuleTable {
+    ghost use Rattle.core_steps.specs.Modules.{ModuleTable};
 
-    ghost Value = { Modules };
+    ghost Value = { ModuleTable };
 
     ghost view = { λ m. record { inside = m.inside.items; list = m.list; manager = m.manager } };
 }
@@ -95,13 +95,13 @@ fn cause_of(op: Op) -> Cause
     }
 }
 
-impl Modules {
+impl ModuleTable {
     /// No module is loaded, and no CPU is inside one.
-    pub fn new(alloc: Global, shape: Shape, sections: u32) -> Result<Modules, AllocError>
+    pub fn new(alloc: Global, shape: Shape, sections: u32) -> Result<ModuleTable, AllocError>
         requires { IsChecked shape }
         ensures { IfOk result (λ modules. modules ≡ fresh_modules shape sections) }
     {
-        Ok(Modules {
+        Ok(ModuleTable {
             inside: no_runs(alloc, shape.cpus, sections)?,
             list: CoreList::new(alloc, shape.kernel_tags, shape.tags - shape.kernel_tags)?,
             manager: Managing::new(alloc),

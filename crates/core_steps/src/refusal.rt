@@ -7,7 +7,7 @@ ghost use Rattle.core_steps.specs.Modules.{inside_at, scene_at};
 ghost use Rattle.core_steps.specs.CoreState.{SectionsFit};
 
 use crate::inside::Inside;
-use crate::modules::Modules;
+use crate::modules::ModuleTable;
 use crate::op::{Op, StepRefused};
 use crate::pending::Pending;
 use tag_model::state::Held;
@@ -186,7 +186,7 @@ fn trim_refusal(key: u32, bytes: u64, places: &[Held], waiting: &[Pending]) -> O
     None
 }
 
-fn enter_refusal(section: u32, modules: &Modules, cpu: usize) -> Option<StepRefused>
+fn enter_refusal(section: u32, modules: &ModuleTable, cpu: usize) -> Option<StepRefused>
     requires cpu { cpu < length modules.now.inside }
     requires section { section < length (inside_at modules.now cpu) }
     ensures { result ≡ enter_refusal (scene_at modules.now cpu) section }
@@ -203,7 +203,7 @@ fn enter_refusal(section: u32, modules: &Modules, cpu: usize) -> Option<StepRefu
     None
 }
 
-fn leave_refusal(section: u32, modules: &Modules, cpu: usize) -> Option<StepRefused>
+fn leave_refusal(section: u32, modules: &ModuleTable, cpu: usize) -> Option<StepRefused>
     requires cpu { cpu < length modules.now.inside }
     requires section { section < length (inside_at modules.now cpu) }
     ensures { result ≡ leave_refusal (scene_at modules.now cpu) section }
@@ -222,7 +222,7 @@ pub fn first_refusal(
     op: Op,
     places: &[Held],
     waiting: &[Pending],
-    modules: &Modules,
+    modules: &ModuleTable,
     cpu: usize,
 ) -> Option<StepRefused>
     requires keys { KeysFit op }
