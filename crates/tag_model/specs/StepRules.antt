@@ -261,3 +261,9 @@ pub record Steps (k : Shape) (old new : List Part) : Type 0 where
   pub w : List Part
   pub row : Row k v w
   pub becomes : Becomes v w old new
+
+-- one step of the step rules, with the base move that may go with it: a run comes to a CPU after an enter, or leaves it before a leave
+pub data StepsWith (k : Shape) (old new : List Part) : Type 0 where
+  alone : Steps k old new → StepsWith k old new
+  gives : {mid v w : List Part} → Steps k old mid → BaseMove v w → Becomes v w mid new → StepsWith k old new
+  takes : {mid v w : List Part} → BaseMove v w → Becomes v w old mid → Steps k mid new → StepsWith k old new

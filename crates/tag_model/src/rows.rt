@@ -15,6 +15,7 @@ ghost use Rattle.tag_model.specs.StepRules.{
   BeginsAllocation,
   Releases,
   Steps,
+  StepsWith,
   SubtractsBytes,
   SubtractsCall,
   WritesPlace,
@@ -61,6 +62,11 @@ pub fn steps_are_safe()
 /// A base move leads from a safe state to a safe state.
 pub fn base_moves_are_safe()
     ensures { (k : Shape) (v w old new : List Part) → BaseMove v w → Becomes v w old new → Safe k old → Safe k new }
+{}
+
+/// So does a step with the base move that goes with it.
+pub fn steps_with_base_moves_are_safe()
+    ensures { (k : Shape) (old new : List Part) → IsChecked k → StepsWith k old new → Safe k old → Safe k new }
 {}
 
 /// A release takes a dead record, and finds nothing counted under a tag of its module, by a place or a hand, nor under
