@@ -69,6 +69,11 @@ pub fn steps_with_base_moves_are_safe()
     ensures { (k : Shape) (old new : List Part) → IsChecked k → StepsWith k old new → Safe k old → Safe k new }
 {}
 
+/// The laws don't read how many words sweeps have read.
+pub fn the_count_of_reads_matters_not()
+    ensures { (k : Shape) (l : ListPart) (reads : ℕ) (old new : List Part) → Becomes (Modules l ∷ []) (Modules (record l { reads = reads }) ∷ []) old new → Safe k old → Safe k new }
+{}
+
 /// A release takes a dead record, and finds nothing counted under a tag of its module, by a place or a hand, nor under
 /// a tag number of its range.
 pub fn a_release_finds_nothing()
