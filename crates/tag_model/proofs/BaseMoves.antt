@@ -1,5 +1,5 @@
 -- The base moves keep all the laws: a run goes from the list to a CPU or back, a CPU notes a record.
-use Rattle.std.proofs.Common.{◌≡◌, ℕ, ◌+◌, ◌<◌, ◌≤◌, ◌==◌, ◌&&◌, ◌||◌, ◌⊎◌, nat_lt, nat_le, List, [], ◌∷◌, ◌++◌, sum_by, count_by, refl, sym, ap, ◌∙◌, subst, inl, inr, arith, Bool, true, false, not, cond, eqb-true, eq-eqb, ne_eqb, le-leb, le-ltb, leb-true, Option, Some, None}
+use Rattle.std.proofs.Common.{◌≡◌, ℕ, ◌+◌, ◌<◌, ◌≤◌, ◌==◌, ◌&&◌, ◌||◌, ◌⊎◌, nat_lt, nat_le, List, [], ◌∷◌, ◌++◌, sum_by, count_by, refl, sym, ap, ◌∙◌, subst, inl, inr, arith, Bool, true, false, not, cond, eqb-true, eq-eqb, ne_eqb, le-leb, le-ltb, Option, Some, None}
 use Rattle.std.specs.List.{list_any}
 use Rattle.std.proofs.lemmas.Bool.{and_parts, and_from, and_right, or_from, or_cases, or_left, or_right, not-true, cases_Bool, cases_eq, cases_lt}
 use Rattle.std.proofs.lemmas.List.Sums.{sum_by-cons, sum_by-append}
@@ -27,6 +27,7 @@ use Rattle.tag_model.proofs.Parts.{becomes_same, every_after, every_before}
 use Rattle.tag_model.proofs.PlaceRow.{settled_may_open}
 use Rattle.tag_model.proofs.Records.{each_after}
 use Rattle.tag_model.proofs.Swept.{holds_first, part_passes, ListLaws, list_laws}
+use Rattle.tag_model.proofs.Told.{one_run_each}
 
 -- ---- what the base moves share
 
@@ -122,10 +123,6 @@ base_kept k c runs notes l away ps qs b moves safe = record {
           | inr new ↦ omega (arith, same (records_with (contradicts n)) refl, one.only (records_with (contradicts n)) (of_records _), new.1)
         ]
 
--- the runs of a CPU on an id are at most one
-one_before_move : (k : Shape) (c : CpuPart) (l : ListPart) (w ps qs : List Part) → Becomes (Cpu c ∷ Modules l ∷ []) w ps qs → Safe k ps → (id : ℕ) → count_by (λ (r : Run). r.id == id) c.runs ≤ 1
-one_before_move k c l w ps qs b safe id = leb-true (count_by (λ (r : Run). r.id == id) c.runs) 1 (part_passes (λ p. nat_le (runs_of_cpu id p) 1) ps (Cpu c) (holds_first (Cpu c) (Modules l ∷ []) w ps qs b) (safe.cover.one_run id))
-
 may_open_before : (k : Shape) (c : CpuPart) (l : ListPart) (w ps qs : List Part) → Becomes (Cpu c ∷ Modules l ∷ []) w ps qs → Safe k ps → hand_may_open c.hand c.runs ≡ true
 may_open_before k c l w ps qs b safe = (cpu_fits_means k c (part_passes (part_fits k) ps (Cpu c) (holds_first (Cpu c) (Modules l ∷ []) w ps qs b) safe.fits)).may_open
 
@@ -168,7 +165,7 @@ safe-gives_run k old new from to ps qs row steps safe =
         omega (arith, joined (λ r. r.id == id))
     one id (inr ne) =
         let here : cond {A = ℕ} (row.run.id == id) 1 0 ≡ 0 = rw (ne_eqb row.run.id id ne) refl in
-        omega (arith, joined (λ r. r.id == id), one_before_move k old from _ ps qs steps safe id)
+        omega (arith, joined (λ r. r.id == id), one_run_each k old (Modules from ∷ []) _ ps qs steps safe id)
 
 -- ---- a run leaves a CPU
 
@@ -178,7 +175,7 @@ safe-takes_run k old new from to ps qs row steps safe =
     (record {
       may_open = settled_may_open old.hand (row.front ++ row.back) row.settled;
       balance = λ test. omega (arith, split test, sum_by-append (λ (r : Run). cond {A = ℕ} (test r) 1 0) row.front row.back, sum_by-cons (λ (r : Run). cond {A = ℕ} (test r) 1 0) row.run from.away);
-      one_run = λ id. omega (arith, split (λ r. r.id == id), sum_by-append (λ (r : Run). cond {A = ℕ} (r.id == id) 1 0) row.front row.back, one_before_move k old from _ ps qs steps safe id);
+      one_run = λ id. omega (arith, split (λ r. r.id == id), sum_by-append (λ (r : Run). cond {A = ℕ} (r.id == id) 1 0) row.front row.back, one_run_each k old (Modules from ∷ []) _ ps qs steps safe id);
       told = λ n h. inl h;
     }) safe
   where
@@ -212,7 +209,7 @@ safe-notes_record k old new list ps qs row steps safe =
     (record {
       may_open = may_open_before k old list _ ps qs steps safe;
       balance = λ test. refl;
-      one_run = one_before_move k old list _ ps qs steps safe;
+      one_run = one_run_each k old (Modules list ∷ []) _ ps qs steps safe;
       told = λ n h. told n h (cases_Bool (same_note n (note_of row.entry)));
     }) safe
   where
