@@ -1,8 +1,9 @@
 -- The base moves keep all the laws: a run goes from the list to a CPU or back, a CPU notes a record.
-use Rattle.std.proofs.Common.{◌≡◌, ℕ, ◌+◌, ◌<◌, ◌≤◌, ◌==◌, ◌&&◌, ◌||◌, ◌⊎◌, nat_lt, nat_le, List, [], ◌∷◌, ◌++◌, sum_by, count_by, refl, sym, ap, ◌∙◌, subst, inl, inr, arith, Bool, true, false, not, cond, eqb-true, eq-eqb, ne_eqb, le-leb, le-ltb, leb-true, Option, Some, None}
+use Rattle.std.proofs.Common.{◌≡◌, ℕ, ◌+◌, ◌<◌, ◌≤◌, ◌==◌, ◌&&◌, ◌||◌, ◌⊎◌, nat_lt, nat_le, List, [], ◌∷◌, ◌++◌, sum_by, count_by, refl, sym, ap, ◌∙◌, subst, inl, inr, arith, Bool, true, false, not, cond, eqb-true, eq-eqb, ne_eqb, le-leb, le-ltb, Option, Some, None}
 use Rattle.std.specs.List.{list_any}
 use Rattle.std.proofs.lemmas.Bool.{and_parts, and_from, and_right, or_from, or_cases, or_left, or_right, not-true, cases_Bool, cases_eq, cases_lt}
 use Rattle.std.proofs.lemmas.List.Sums.{sum_by-cons, sum_by-append}
+use Rattle.std.proofs.lemmas.List.Folds.{list_any-append}
 use Rattle.tag_model.specs.declared.shape.Shape.{Shape}
 use Rattle.tag_model.specs.declared.state.CpuPart.{CpuPart}
 use Rattle.tag_model.specs.declared.state.Hand.{Hand}
@@ -26,6 +27,7 @@ use Rattle.tag_model.proofs.Parts.{becomes_same, every_after, every_before}
 use Rattle.tag_model.proofs.PlaceRow.{settled_may_open}
 use Rattle.tag_model.proofs.Records.{each_after}
 use Rattle.tag_model.proofs.Swept.{holds_first, part_passes, ListLaws, list_laws}
+use Rattle.tag_model.proofs.Told.{one_run_each}
 
 -- ---- what the base moves share
 
@@ -121,42 +123,49 @@ base_kept k c runs notes l away ps qs b moves safe = record {
           | inr new ↦ omega (arith, same (records_with (contradicts n)) refl, one.only (records_with (contradicts n)) (of_records _), new.1)
         ]
 
--- the runs of a CPU on an id are at most one
-one_before_move : (k : Shape) (c : CpuPart) (l : ListPart) (w ps qs : List Part) → Becomes (Cpu c ∷ Modules l ∷ []) w ps qs → Safe k ps → (id : ℕ) → count_by (λ (r : Run). r.id == id) c.runs ≤ 1
-one_before_move k c l w ps qs b safe id = leb-true (count_by (λ (r : Run). r.id == id) c.runs) 1 (part_passes (λ p. nat_le (runs_of_cpu id p) 1) ps (Cpu c) (holds_first (Cpu c) (Modules l ∷ []) w ps qs b) (safe.cover.one_run id))
-
 may_open_before : (k : Shape) (c : CpuPart) (l : ListPart) (w ps qs : List Part) → Becomes (Cpu c ∷ Modules l ∷ []) w ps qs → Safe k ps → hand_may_open c.hand c.runs ≡ true
 may_open_before k c l w ps qs b safe = (cpu_fits_means k c (part_passes (part_fits k) ps (Cpu c) (holds_first (Cpu c) (Modules l ∷ []) w ps qs b) safe.fits)).may_open
 
 -- ---- a run goes to a CPU
 
-may_open_more : (hand : Option Hand) (run : Run) (runs : List Run) → hand_may_open hand runs ≡ true → hand_may_open hand (run ∷ runs) ≡ true
-may_open_more None run runs e = refl
-may_open_more (Some h) run runs e =
-    elim (or_cases (not h.opening || (h.tag.module == 0)) (list_any (λ (r : Run). (r.id == h.tag.module) && in_range r.start r.length h.tag.number) runs) e)
-    [ inl settled ↦ or_left _ _ settled | inr ran ↦ or_right _ _ (or_right _ _ ran) ]
+-- what one of the elements passes, one of them passes where another joins
+any_joins : {X : Type 0} (p : X → Bool) (front : List X) (x : X) (back : List X) → list_any p (front ++ back) ≡ true → list_any p (front ++ x ∷ back) ≡ true
+any_joins p front x back e =
+    list_any-append p front (x ∷ back)
+    ∙ elim (or_cases (list_any p front) (list_any p back) (sym (list_any-append p front back) ∙ e)) [ inl here ↦ or_left _ _ here | inr there ↦ or_right _ _ (or_right _ _ there) ]
+
+may_open_more : (hand : Option Hand) (front : List Run) (run : Run) (back : List Run) → hand_may_open hand (front ++ back) ≡ true → hand_may_open hand (front ++ run ∷ back) ≡ true
+may_open_more None front run back e = refl
+may_open_more (Some h) front run back e =
+    elim (or_cases (not h.opening || (h.tag.module == 0)) (list_any (λ (r : Run). (r.id == h.tag.module) && in_range r.start r.length h.tag.number) (front ++ back)) e)
+    [ inl settled ↦ or_left _ _ settled | inr ran ↦ or_right _ _ (any_joins (λ (r : Run). (r.id == h.tag.module) && in_range r.start r.length h.tag.number) front run back ran) ]
 
 pub safe-gives_run : (k : Shape) (old new : CpuPart) (from to : ListPart) (ps qs : List Part) → GivesRun old new from to → Becomes (Cpu old ∷ Modules from ∷ []) (Cpu new ∷ Modules to ∷ []) ps qs → Safe k ps → Safe k qs
 safe-gives_run k old new from to ps qs row steps safe =
-    base_kept k old (row.run ∷ old.runs) old.notes from row.runs ps qs b
+    base_kept k old (row.front ++ row.run ∷ row.back) old.notes from row.runs ps qs b
     (record {
-      may_open = may_open_more old.hand row.run old.runs (may_open_before k old from _ ps qs steps safe);
-      balance = λ test. rw row.away (omega (arith, sum_by-cons (λ (r : Run). cond {A = ℕ} (test r) 1 0) row.run row.runs, sum_by-cons (λ (r : Run). cond {A = ℕ} (test r) 1 0) row.run old.runs));
+      may_open = may_open_more old.hand row.front row.run row.back (subst (λ xs. hand_may_open old.hand xs ≡ true) row.had (may_open_before k old from _ ps qs steps safe));
+      balance = λ test. rw row.away (omega (arith, sum_by-cons (λ (r : Run). cond {A = ℕ} (test r) 1 0) row.run row.runs, joined test));
       one_run = λ id. one id (cases_eq row.run.id id);
       told = λ n h. inl h;
     }) safe
   where
-    b : Becomes (Cpu old ∷ Modules from ∷ []) (Cpu (moved_cpu old (row.run ∷ old.runs) old.notes) ∷ Modules (moved_list from row.runs) ∷ []) ps qs
+    b : Becomes (Cpu old ∷ Modules from ∷ []) (Cpu (moved_cpu old (row.front ++ row.run ∷ row.back) old.notes) ∷ Modules (moved_list from row.runs) ∷ []) ps qs
     b = subst (λ y. Becomes (Cpu old ∷ Modules from ∷ []) (Cpu y ∷ Modules (moved_list from row.runs) ∷ []) ps qs) row.cpu (subst (λ y. Becomes (Cpu old ∷ Modules from ∷ []) (Cpu new ∷ Modules y ∷ []) ps qs) row.list steps)
 
-    one : (id : ℕ) → (row.run.id ≡ id) ⊎ (row.run.id ≡ id → ⊥) → count_by (λ (r : Run). r.id == id) (row.run ∷ old.runs) ≤ 1
+    joined : (test : Run → Bool) → count_by test (row.front ++ row.run ∷ row.back) ≡ cond {A = ℕ} (test row.run) 1 0 + count_by test old.runs
+    joined test =
+        let had : count_by test old.runs ≡ count_by test (row.front ++ row.back) = ap (λ xs. count_by test xs) row.had in
+        omega (arith, had, sum_at (λ (r : Run). cond {A = ℕ} (test r) 1 0) row.front row.run row.back, sum_by-append (λ (r : Run). cond {A = ℕ} (test r) 1 0) row.front row.back)
+
+    one : (id : ℕ) → (row.run.id ≡ id) ⊎ (row.run.id ≡ id → ⊥) → count_by (λ (r : Run). r.id == id) (row.front ++ row.run ∷ row.back) ≤ 1
     one id (inl e) =
         let none = subst (λ x. count_by (λ (r : Run). r.id == x) old.runs ≡ 0) e row.first in
         let here : cond {A = ℕ} (row.run.id == id) 1 0 ≡ 1 = rw (eq-eqb row.run.id id e) refl in
-        omega (arith, sum_by-cons (λ (r : Run). cond {A = ℕ} (r.id == id) 1 0) row.run old.runs)
+        omega (arith, joined (λ r. r.id == id))
     one id (inr ne) =
         let here : cond {A = ℕ} (row.run.id == id) 1 0 ≡ 0 = rw (ne_eqb row.run.id id ne) refl in
-        omega (arith, sum_by-cons (λ (r : Run). cond {A = ℕ} (r.id == id) 1 0) row.run old.runs, one_before_move k old from _ ps qs steps safe id)
+        omega (arith, joined (λ r. r.id == id), one_run_each k old (Modules from ∷ []) _ ps qs steps safe id)
 
 -- ---- a run leaves a CPU
 
@@ -166,7 +175,7 @@ safe-takes_run k old new from to ps qs row steps safe =
     (record {
       may_open = settled_may_open old.hand (row.front ++ row.back) row.settled;
       balance = λ test. omega (arith, split test, sum_by-append (λ (r : Run). cond {A = ℕ} (test r) 1 0) row.front row.back, sum_by-cons (λ (r : Run). cond {A = ℕ} (test r) 1 0) row.run from.away);
-      one_run = λ id. omega (arith, split (λ r. r.id == id), sum_by-append (λ (r : Run). cond {A = ℕ} (r.id == id) 1 0) row.front row.back, one_before_move k old from _ ps qs steps safe id);
+      one_run = λ id. omega (arith, split (λ r. r.id == id), sum_by-append (λ (r : Run). cond {A = ℕ} (r.id == id) 1 0) row.front row.back, one_run_each k old (Modules from ∷ []) _ ps qs steps safe id);
       told = λ n h. inl h;
     }) safe
   where
@@ -200,7 +209,7 @@ safe-notes_record k old new list ps qs row steps safe =
     (record {
       may_open = may_open_before k old list _ ps qs steps safe;
       balance = λ test. refl;
-      one_run = one_before_move k old list _ ps qs steps safe;
+      one_run = one_run_each k old (Modules list ∷ []) _ ps qs steps safe;
       told = λ n h. told n h (cases_Bool (same_note n (note_of row.entry)));
     }) safe
   where

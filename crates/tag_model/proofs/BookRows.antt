@@ -1,4 +1,4 @@
--- The changes of the module list that keep its records' ids and ranges keep all the laws: a sweep begins, a CPU enters or leaves, a record is marked dead.
+-- The changes of the module list that keep its records' ids and ranges keep all the laws: a sweep begins, the count of reads changes, a CPU enters or leaves.
 use Rattle.std.proofs.Common.{◌≡◌, ℕ, ◌+◌, ◌-◌, ◌<◌, ◌≤◌, ◌==◌, ◌&&◌, ◌⊎◌, nat_lt, nat_le, List, [], ◌∷◌, ◌++◌, sum_by, count_by, refl, sym, ap, ◌∙◌, subst, inl, inr, arith, Bool, true, false, not, cond, eqb-true, eq-eqb, if◌then◌else◌}
 use Rattle.std.specs.List.{list_all}
 use Rattle.std.proofs.lemmas.Bool.{and_parts, and_from, false≢true, cases_Bool, cases_lt}
@@ -10,6 +10,8 @@ use Rattle.tag_model.specs.declared.state.Part.{Part}
 use Rattle.tag_model.specs.declared.state.Part.TheVariants.{Modules}
 use Rattle.tag_model.specs.declared.state.Record.{Record}
 use Rattle.tag_model.specs.declared.state.Run.{Run}
+use Rattle.tag_model.specs.declared.state.Stop.{Stop}
+use Rattle.tag_model.specs.declared.state.Sweep.{Sweep}
 use Rattle.tag_model.specs.declared.state.Tag.{Tag}
 use Rattle.tag_model.specs.Laws.{Safe, CoverLaw, IsCovered, is_loaded_as, same_run, same_note, contradicts, runs_of_cpu, rises_from, ids_of}
 use Rattle.tag_model.specs.Shape.{IsChecked}
@@ -62,25 +64,40 @@ list_kept k l m ps qs s fits rise cover ok = record {
     b : Becomes v w ps qs
     b = s.becomes
 
--- ---- a sweep of all dead records begins
+-- ---- the sweep, its stops and the count of reads change
 
-pub safe-sweeps : (k : Shape) (old new : ListPart) (ps qs : List Part) → IsChecked k → Sweeps old new → Becomes (Modules old ∷ []) (Modules new ∷ []) ps qs → Safe k ps → Safe k qs
-safe-sweeps k old new ps qs checked row steps safe =
-    list_kept k old m ps qs s s.laws.records_fit s.laws.rise
-    (cover_alike k ps qs book safe.cover (λ tag h. safe.cover.named tag (omega (arith, becomes_same (counted_of Calls tag) (Modules old ∷ []) (Modules m ∷ []) ps qs s.becomes refl))))
-    (begins_pass_ok k Bytes (dead_ids old.records) old.records ps (pass_base k old ps checked s.laws safe) (rises_dead 0 old.records s.laws.rise) (dead_are_dead old.records) (λ e. absurd (false≢true e)))
+abbrev pub swept : ListPart → Sweep → List Stop → ℕ → ListPart
+swept l s stops reads = record l { sweep = s; stops = stops; reads = reads }
+
+sweep_kept : (k : Shape) (l : ListPart) (sweep : Sweep) (stops : List Stop) (reads : ℕ) (ps qs : List Part) → ListStep k l (swept l sweep stops reads) ps qs → SweepOk k sweep l.records ps → Safe k qs
+sweep_kept k l sweep stops reads ps qs s ok =
+    list_kept k l m ps qs s s.laws.records_fit s.laws.rise
+    (cover_alike k ps qs (book_after (Modules l ∷ []) (Modules m ∷ []) ps qs alike s.becomes) s.safe.cover (λ tag h. s.safe.cover.named tag (omega (arith, becomes_same (counted_of Calls tag) (Modules l ∷ []) (Modules m ∷ []) ps qs s.becomes refl))))
+    ok
   where
     m : ListPart
-    m = record old { sweep = begins_pass Bytes (dead_ids old.records) old.records; stops = [] }
+    m = swept l sweep stops reads
 
-    s : ListStep k old m ps qs
-    s = list_step k old m ps qs (subst (λ y. Becomes (Modules old ∷ []) (Modules y ∷ []) ps qs) row.after steps) safe
-
-    alike : AlikeBook (Modules old ∷ []) (Modules m ∷ [])
+    alike : AlikeBook (Modules l ∷ []) (Modules m ∷ [])
     alike = record { cpus = λ n. refl; pass = refl; places = λ n. refl; few_places = refl; runs = λ test. refl; notes = λ test. refl; next = refl; one_run = λ id. refl; list = refl; records = λ test. refl; users = λ id. refl; high = λ next. refl }
 
-    book : AlikeBook ps qs
-    book = book_after (Modules old ∷ []) (Modules m ∷ []) ps qs alike s.becomes
+-- a sweep of all dead records begins
+pub safe-sweeps : (k : Shape) (old new : ListPart) (ps qs : List Part) → IsChecked k → Sweeps old new → Becomes (Modules old ∷ []) (Modules new ∷ []) ps qs → Safe k ps → Safe k qs
+safe-sweeps k old new ps qs checked row steps safe =
+    sweep_kept k old begun [] old.reads ps qs s
+    (begins_pass_ok k Bytes (dead_ids old.records) old.records ps (pass_base k old ps checked s.laws safe) (rises_dead 0 old.records s.laws.rise) (dead_are_dead old.records) (λ e. absurd (false≢true e)))
+  where
+    begun : Sweep
+    begun = begins_pass Bytes (dead_ids old.records) old.records
+
+    s : ListStep k old (swept old begun [] old.reads) ps qs
+    s = list_step k old (swept old begun [] old.reads) ps qs (subst (λ y. Becomes (Modules old ∷ []) (Modules y ∷ []) ps qs) row.after steps) safe
+
+-- the laws don't read the count of reads
+pub safe-reads : (k : Shape) (l : ListPart) (reads : ℕ) (ps qs : List Part) → Becomes (Modules l ∷ []) (Modules (record l { reads = reads }) ∷ []) ps qs → Safe k ps → Safe k qs
+safe-reads k l reads ps qs b safe =
+    let s = list_step k l (record l { reads = reads }) ps qs b safe in
+    sweep_kept k l l.sweep l.stops reads ps qs s s.sweep
 
 -- ---- one record changes
 

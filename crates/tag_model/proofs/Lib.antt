@@ -25,4 +25,5 @@ pub mod Still
 pub mod StopLaw
 pub mod Stops
 pub mod Swept
+pub mod Told
 pub mod Words

@@ -1,10 +1,10 @@
--- Each step of the step rules, and each base move, leads from a safe state to a safe state.
+-- Each step of the step rules, each base move, and a step with the base move that goes with it, leads from a safe state to a safe state.
 use Rattle.std.proofs.Common.{List}
 use Rattle.tag_model.specs.declared.shape.Shape.{Shape}
 use Rattle.tag_model.specs.declared.state.Part.{Part}
 use Rattle.tag_model.specs.Laws.{Safe}
 use Rattle.tag_model.specs.Shape.{IsChecked}
-use Rattle.tag_model.specs.StepRules.{Row, BaseMove, Becomes, Steps}
+use Rattle.tag_model.specs.StepRules.{Row, BaseMove, Becomes, Steps, StepsWith}
 use Rattle.tag_model.proofs.BaseMoves.{safe-gives_run, safe-takes_run, safe-notes_record}
 use Rattle.tag_model.proofs.BookRows.{safe-sweeps, safe-enters, safe-leaves}
 use Rattle.tag_model.proofs.CpuRows.{safe-begins_allocation, safe-adds_bytes, safe-adds_call, safe-subtracts_bytes, safe-subtracts_call}
@@ -36,3 +36,8 @@ pub base_move_is_safe : (k : Shape) (v w ps qs : List Part) → BaseMove v w →
 base_move_is_safe k v w ps qs (BaseMove.gives_run {old} {new} {from} {to} r) b safe = safe-gives_run k old new from to ps qs r b safe
 base_move_is_safe k v w ps qs (BaseMove.takes_run {old} {new} {from} {to} r) b safe = safe-takes_run k old new from to ps qs r b safe
 base_move_is_safe k v w ps qs (BaseMove.notes_record {old} {new} {list} r) b safe = safe-notes_record k old new list ps qs r b safe
+
+pub safe-steps_with : (k : Shape) (ps qs : List Part) → IsChecked k → StepsWith k ps qs → Safe k ps → Safe k qs
+safe-steps_with k ps qs ok (StepsWith.alone s) safe = step_is_safe k ps qs ok s safe
+safe-steps_with k ps qs ok (StepsWith.gives {mid} {v} {w} s move b) safe = base_move_is_safe k v w mid qs move b (step_is_safe k ps mid ok s safe)
+safe-steps_with k ps qs ok (StepsWith.takes {mid} {v} {w} move b s) safe = step_is_safe k mid qs ok s (base_move_is_safe k v w ps mid move b safe)

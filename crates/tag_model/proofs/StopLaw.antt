@@ -40,7 +40,7 @@ history_safe k first (next ∷ later) ok h safe = history_safe k next later ok h
 base_still : (k : Shape) (kind : Kind) (t : ℕ) (v w ps qs : List Part) → BaseMove v w → Becomes v w ps qs → Safe k ps → Still kind t ps → Still kind t qs
 base_still k kind t v w ps qs (BaseMove.gives_run {old} {new} {from} {to} r) b safe s =
     let moved = subst (λ y. Becomes (Cpu old ∷ Modules from ∷ []) (Cpu y ∷ Modules (record from { away = r.runs }) ∷ []) ps qs) r.cpu (subst (λ y. Becomes (Cpu old ∷ Modules from ∷ []) (Cpu new ∷ Modules y ∷ []) ps qs) r.list b) in
-    still_stays k kind t ps qs safe (quiet_stays kind t (Cpu old ∷ Modules from ∷ []) (Cpu (record old { runs = r.run ∷ old.runs }) ∷ Modules (record from { away = r.runs }) ∷ []) ps qs moved (omega arith) (λ f. refl) refl (λ i. refl)) s
+    still_stays k kind t ps qs safe (quiet_stays kind t (Cpu old ∷ Modules from ∷ []) (Cpu (record old { runs = r.front ++ r.run ∷ r.back }) ∷ Modules (record from { away = r.runs }) ∷ []) ps qs moved (omega arith) (λ f. refl) refl (λ i. refl)) s
 base_still k kind t v w ps qs (BaseMove.takes_run {old} {new} {from} {to} r) b safe s =
     let moved = subst (λ y. Becomes (Cpu old ∷ Modules from ∷ []) (Cpu y ∷ Modules (record from { away = r.run ∷ from.away }) ∷ []) ps qs) r.cpu (subst (λ y. Becomes (Cpu old ∷ Modules from ∷ []) (Cpu new ∷ Modules y ∷ []) ps qs) r.list b) in
     still_stays k kind t ps qs safe (quiet_stays kind t (Cpu old ∷ Modules from ∷ []) (Cpu (record old { runs = r.front ++ r.back }) ∷ Modules (record from { away = r.run ∷ from.away }) ∷ []) ps qs moved (omega arith) (λ f. refl) refl (λ i. refl)) s

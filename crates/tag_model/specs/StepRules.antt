@@ -197,13 +197,16 @@ pub record Releases (left : List ℕ) (id : ℕ) (old new : ListPart) : Type 0 w
 
 -- ---- base moves, which change no word, no place, no record and no sweep
 
--- a run goes to a CPU that has none on its record
+-- a run goes to a CPU that has none on its record, and stands anywhere among the CPU's runs
 pub record GivesRun (old new : CpuPart) (from to : ListPart) : Type 0 where
+  pub front : List Run
   pub run : Run
+  pub back : List Run
   pub runs : List Run
   pub away : from.away ≡ run ∷ runs
   pub first : count_by (λ (r : Run). r.id == run.id) old.runs ≡ 0
-  pub cpu : new ≡ record old { runs = run ∷ old.runs }
+  pub had : old.runs ≡ front ++ back
+  pub cpu : new ≡ record old { runs = front ++ run ∷ back }
   pub list : to ≡ record from { away = runs }
 
 -- a run leaves a CPU that is between no allocation's steps

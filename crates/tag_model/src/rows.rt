@@ -2,9 +2,9 @@
 //! definitions.
 
 ghost use Rattle.std.specs.List.{list_all, list_any};
-ghost use Rattle.std.specs.Prelude.{ℕ, ◌≡◌, ◌<◌, ◌≤◌, ◌==◌, ◌&&◌, IsTrue, List, [], ◌∷◌, count_by, sum_by};
+ghost use Rattle.std.specs.Prelude.{ℕ, ◌≡◌, ◌<◌, ◌≤◌, ◌==◌, ◌&&◌, nat_lt, IsTrue, Some, List, [], ◌∷◌, ◌++◌, count_by, sum_by};
 ghost use Rattle.tag_model.specs.Histories.{IsHistory, Leads, PassHistory, last_state, stops_at};
-ghost use Rattle.tag_model.specs.Laws.{OneOfEach, Safe, SumLaw, has_hand, is_fresh, is_held, live_of};
+ghost use Rattle.tag_model.specs.Laws.{OneOfEach, Safe, SumLaw, has_hand, ids_of, is_fresh, is_held, is_loaded_as, live_of, rises_from, sweep_fits};
 ghost use Rattle.tag_model.specs.Reference.{live_total};
 ghost use Rattle.tag_model.specs.Shape.{IsChecked};
 ghost use Rattle.tag_model.specs.StepRules.{
@@ -15,11 +15,12 @@ ghost use Rattle.tag_model.specs.StepRules.{
   BeginsAllocation,
   Releases,
   Steps,
+  StepsWith,
   SubtractsBytes,
   SubtractsCall,
   WritesPlace,
 };
-ghost use Rattle.tag_model.specs.WordState.{Every, counted, counted_of, in_range, word_of};
+ghost use Rattle.tag_model.specs.WordState.{Every, counted, counted_of, in_range, next_id, runs_with, users_of, word_of};
 ghost use Rattle.tag_model.specs.Wrap.{wrap};
 ghost use Rattle.tag_model.specs.declared.shape.Shape.{Shape};
 ghost use Rattle.tag_model.specs.declared.state.CpuPart.{CpuPart};
@@ -31,6 +32,7 @@ ghost use Rattle.tag_model.specs.declared.state.ListPart.{ListPart};
 ghost use Rattle.tag_model.specs.declared.state.Part.TheVariants.{Cpu, Modules, Place};
 ghost use Rattle.tag_model.specs.declared.state.Part.{Part};
 ghost use Rattle.tag_model.specs.declared.state.Record.{Record};
+ghost use Rattle.tag_model.specs.declared.state.Run.{Run};
 ghost use Rattle.tag_model.specs.declared.state.Tag.{Tag};
 
 /// After each step of a CPU on a word or a place, each tag's words are still what places and hands count, modulo
@@ -63,6 +65,16 @@ pub fn base_moves_are_safe()
     ensures { (k : Shape) (v w old new : List Part) → BaseMove v w → Becomes v w old new → Safe k old → Safe k new }
 {}
 
+/// So does a step with the base move that goes with it.
+pub fn steps_with_base_moves_are_safe()
+    ensures { (k : Shape) (old new : List Part) → IsChecked k → StepsWith k old new → Safe k old → Safe k new }
+{}
+
+/// The laws don't read how many words sweeps have read.
+pub fn the_count_of_reads_matters_not()
+    ensures { (k : Shape) (l : ListPart) (reads : ℕ) (old new : List Part) → Becomes (Modules l ∷ []) (Modules (record l { reads = reads }) ∷ []) old new → Safe k old → Safe k new }
+{}
+
 /// A release takes a dead record, and finds nothing counted under a tag of its module, by a place or a hand, nor under
 /// a tag number of its range.
 pub fn a_release_finds_nothing()
@@ -90,4 +102,16 @@ pub fn a_fresh_state_is_safe()
 /// The laws read sums over the parts, so they ask neither for an order of the parts nor for who holds which.
 pub fn safe_in_any_order()
     ensures { (k : Shape) (old new : List Part) → ((weight : Part → ℕ) → sum_by weight old ≡ sum_by weight new) → Safe k old → Safe k new }
+{}
+
+/// What a safe state tells of a CPU in it and of its module list: a run of the CPU has its loaded record, and a
+/// record's users are the runs on it; the CPU has at most one run on an id; the records stand by rising id, each below
+/// the next one that is given, and the sweep is in its bounds; the hand's tag is one of the shape's.
+pub fn a_safe_state_tells()
+    ensures run_is_loaded { (k : Shape) (c : CpuPart) (l : ListPart) (parts : List Part) (front : List Run) (run : Run) (back : List Run) → Becomes (Cpu c ∷ Modules l ∷ []) (Cpu c ∷ Modules l ∷ []) parts parts → Safe k parts → c.runs ≡ front ++ run ∷ back → IsTrue (list_any (is_loaded_as run) l.records) }
+    ensures users_are_runs { (k : Shape) (c : CpuPart) (l : ListPart) (parts : List Part) (id : ℕ) → Becomes (Cpu c ∷ Modules l ∷ []) (Cpu c ∷ Modules l ∷ []) parts parts → Safe k parts → sum_by (runs_with (λ r. r.id == id)) parts ≡ users_of id (Modules l) }
+    ensures one_run_each { (k : Shape) (c : CpuPart) (l : ListPart) (parts : List Part) (id : ℕ) → Becomes (Cpu c ∷ Modules l ∷ []) (Cpu c ∷ Modules l ∷ []) parts parts → Safe k parts → count_by (λ (r : Run). r.id == id) c.runs ≤ 1 }
+    ensures sweep_in_bounds { (k : Shape) (c : CpuPart) (l : ListPart) (parts : List Part) → Becomes (Cpu c ∷ Modules l ∷ []) (Cpu c ∷ Modules l ∷ []) parts parts → Safe k parts → IsTrue (sweep_fits k l.sweep l.records) × IsTrue (rises_from 0 (ids_of l.records)) }
+    ensures ids_below { (k : Shape) (c : CpuPart) (l : ListPart) (parts : List Part) → Becomes (Cpu c ∷ Modules l ∷ []) (Cpu c ∷ Modules l ∷ []) parts parts → Safe k parts → IsTrue (list_all (λ (r : Record). nat_lt r.id (sum_by next_id parts)) l.records) }
+    ensures hand_in_tags { (k : Shape) (c : CpuPart) (l : ListPart) (parts : List Part) (hand : Hand) → IsChecked k → Becomes (Cpu c ∷ Modules l ∷ []) (Cpu c ∷ Modules l ∷ []) parts parts → Safe k parts → c.hand ≡ Some hand → hand.tag.number < k.tags }
 {}
