@@ -4,6 +4,5 @@
 
 pub mod list;
 pub mod rows;
-
 #[cfg(test)]
 mod tests;

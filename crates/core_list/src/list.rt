@@ -54,7 +54,7 @@ impl Model for CoreList {
     ghost use Rattle.std.specs.Prelude.{◌≤◌, vec_capacity};
     ghost use Rattle.module_area.specs.declared.book.TheConstants.{BOOK_LIMIT};
     ghost use Rattle.tag_model.specs.Laws.{are_dead, sweep_fits};
-ghost use Rattle.core_list.specs.ListState.{ListState, IsList};
+    ghost use Rattle.core_list.specs.ListState.{ListState, IsList};
     ghost use Rattle.core_list.specs.Stages.{sweep_of};
 
     ghost Value = { ListState };

@@ -1,0 +1,4 @@
+pub mod Split
+pub mod Room
+pub mod Changes
+pub mod Kept

@@ -1,0 +1,127 @@
+-- The entries of a book as records of the list: ids stand once and rise, and the entry of an id stands between others.
+use Rattle.std.proofs.Common.{◌≡◌, ℕ, suc, ◌+◌, ◌<◌, ◌≤◌, ◌==◌, List, [], ◌∷◌, ◌++◌, map, filter, count_by, All, AllPairs, Some, refl, sym, ap, ◌∙◌, subst, arith, Bool, true, false, not, cond, eqb-true, eq-eqb, ne_eqb, lt-ltb}
+use Rattle.std.proofs.lemmas.Bool.{and_from, cond-true, cond-false, eqb-false}
+use Rattle.std.proofs.lemmas.List.{map-append}
+use Rattle.std.proofs.lemmas.List.Elements.{All-head}
+use Rattle.std.proofs.lemmas.List.Sums.{sum_by-cons}
+use Rattle.std.proofs.lemmas.Option.{same_Some}
+use Rattle.tag_model.specs.declared.state.Record.{Record}
+use Rattle.tag_model.specs.Laws.{rises_from, ids_of}
+use Rattle.tag_model.proofs.Found.{Found}
+use Rattle.tag_model.proofs.Ids.{rises_cons, RangeOf, range_of}
+use Rattle.tag_model.proofs.Lists.{Apart}
+use Rattle.module_area.specs.declared.entry.Entry.{Entry}
+use Rattle.module_area.specs.Entries.{entry_of, with_entry, without_entry}
+use Rattle.module_area.specs.Area.{Area, IsBook}
+use Rattle.core_list.specs.ListState.{record_of}
+
+-- ---- ids that rise
+
+ids_rise : (low : ℕ) (entries : List Entry) → All (λ e. low < e.id) entries → AllPairs (λ one other. one.id < other.id) entries → rises_from low (ids_of (map record_of entries)) ≡ true
+ids_rise low [] above rising = refl
+ids_rise low (e ∷ es) above rising =
+    and_from _ _ (lt-ltb low e.id (All-head (λ x. low < x.id) e es above))
+    (ids_rise e.id es (λ k d inside. rising 0 (suc k) d (omega arith) (omega arith)) (λ i j d less inside. rising (suc i) (suc j) d (omega arith) (omega arith)))
+
+-- the ids of a book's records rise
+pub book_rises : (area : Area) → IsBook area → rises_from 0 (ids_of (map record_of area.entries)) ≡ true
+book_rises area book = ids_rise 0 area.entries book.above_zero book.rising
+
+none_of_id : (id low : ℕ) (records : List Record) → id ≤ low → rises_from low (ids_of records) ≡ true → count_by (λ (r : Record). r.id == id) records ≡ 0
+none_of_id id low [] h e = refl
+none_of_id id low (r ∷ records) h e =
+    let both = rises_cons low r.id (ids_of records) e in
+    let none : cond {A = ℕ} (r.id == id) 1 0 ≡ 0 = cond-false (r.id == id) 1 0 (ne_eqb r.id id (λ same. omega (arith, both.0))) in
+    omega (arith, sum_by-cons (λ (x : Record). cond {A = ℕ} (x.id == id) 1 0) r records, none_of_id id r.id records (omega (arith, both.0)) both.1)
+
+-- ids that rise stand once
+pub rising_apart : (low : ℕ) (records : List Record) → rises_from low (ids_of records) ≡ true → Apart records
+rising_apart low [] e id = omega arith
+rising_apart low (r ∷ records) e id =
+    let both = rises_cons low r.id (ids_of records) e in
+    go (r.id == id) refl both.1 (rising_apart r.id records both.1 id) (sum_by-cons (λ (x : Record). cond {A = ℕ} (x.id == id) 1 0) r records)
+  where
+    go : (b : Bool) → (r.id == id) ≡ b → rises_from r.id (ids_of records) ≡ true → count_by (λ (x : Record). x.id == id) records ≤ 1
+        → count_by (λ (x : Record). x.id == id) (r ∷ records) ≡ cond {A = ℕ} (r.id == id) 1 0 + count_by (λ (x : Record). x.id == id) records
+        → count_by (λ (x : Record). x.id == id) (r ∷ records) ≤ 1
+    go true is rises few count =
+        let same = eqb-true r.id id is in
+        let one : cond {A = ℕ} (r.id == id) 1 0 ≡ 1 = cond-true (r.id == id) 1 0 is in
+        omega (arith, none_of_id id r.id records (omega arith) rises)
+    go false is rises few count =
+        let none : cond {A = ℕ} (r.id == id) 1 0 ≡ 0 = cond-false (r.id == id) 1 0 is in
+        omega arith
+
+-- each id of a book's records stands once
+pub book_apart : (area : Area) → IsBook area → Apart (map record_of area.entries)
+book_apart area book = rising_apart 0 (map record_of area.entries) (book_rises area book)
+
+-- ---- the entry of an id among the others
+
+pub record EntryAt (entries : List Entry) (id : ℕ) (e : Entry) : Type 0 where
+  pub front : List Entry
+  pub back : List Entry
+  pub is : entries ≡ front ++ e ∷ back
+  pub same_id : e.id ≡ id
+  pub changed : (change : Entry → Entry) → with_entry id change entries ≡ front ++ change e ∷ back
+
+none_changed : (id low : ℕ) (change : Entry → Entry) (entries : List Entry) → id ≤ low → rises_from low (ids_of (map record_of entries)) ≡ true → with_entry id change entries ≡ entries
+none_changed id low change [] h e = refl
+none_changed id low change (x ∷ xs) h e =
+    let both = rises_cons low x.id (ids_of (map record_of xs)) e in
+    let other = ne_eqb x.id id (λ same. omega (arith, both.0)) in
+    let one : Entry = cond (x.id == id) (change x) x in
+    ap (λ es. one ∷ es) (none_changed id x.id change xs (omega (arith, both.0)) both.1) ∙ ap (λ y. y ∷ xs) (cond-false (x.id == id) (change x) x other)
+
+pub entry_at : (low : ℕ) (entries : List Entry) (id : ℕ) (e : Entry) → rises_from low (ids_of (map record_of entries)) ≡ true → entry_of entries id ≡ Some e → EntryAt entries id e
+entry_at low [] id e rises found = absurd (cc)
+entry_at low (x ∷ xs) id e rises found =
+    let both = rises_cons low x.id (ids_of (map record_of xs)) rises in
+    go (x.id == id) refl found both.1 (λ later. entry_at x.id xs id e both.1 later)
+  where
+    go : (b : Bool) → (x.id == id) ≡ b → cond b (Some x) (entry_of xs id) ≡ Some e → rises_from x.id (ids_of (map record_of xs)) ≡ true → (entry_of xs id ≡ Some e → EntryAt xs id e) → EntryAt (x ∷ xs) id e
+    go true is found rises later =
+        let same_id = eqb-true x.id id is in
+        subst (λ y. EntryAt (x ∷ xs) id y) (same_Some x e found) (record {
+          front = [];
+          back = xs;
+          is = refl;
+          same_id = same_id;
+          changed = λ change. let one : Entry = cond (x.id == id) (change x) x in ap (λ es. one ∷ es) (none_changed id x.id change xs (omega arith) rises) ∙ ap (λ y. y ∷ xs) (cond-true (x.id == id) (change x) x is);
+        })
+    go false is found rises later =
+        let l = later found in
+        record {
+          front = x ∷ l.front;
+          back = l.back;
+          is = ap (λ es. x ∷ es) l.is;
+          same_id = l.same_id;
+          changed = λ change. let one : Entry = cond (x.id == id) (change x) x in ap (λ es. one ∷ es) (l.changed change) ∙ ap (λ y. y ∷ l.front ++ change e ∷ l.back) (cond-false (x.id == id) (change x) x is);
+        }
+
+pub book_entry_at : (area : Area) (id : ℕ) (e : Entry) → IsBook area → entry_of area.entries id ≡ Some e → EntryAt area.entries id e
+book_entry_at area id e book found = entry_at 0 area.entries id e (book_rises area book) found
+
+-- the records, and the records with the one of the id changed
+pub records_at : (entries : List Entry) (id : ℕ) (e : Entry) → (at : EntryAt entries id e) → map record_of entries ≡ map record_of at.front ++ record_of e ∷ map record_of at.back
+records_at entries id e at = ap (map record_of) at.is ∙ map-append record_of at.front (e ∷ at.back)
+
+pub records_changed : (entries : List Entry) (id : ℕ) (e : Entry) (change : Entry → Entry) → (at : EntryAt entries id e)
+    → map record_of (with_entry id change entries) ≡ map record_of at.front ++ record_of (change e) ∷ map record_of at.back
+records_changed entries id e change at = ap (map record_of) (at.changed change) ∙ map-append record_of at.front (change e ∷ at.back)
+
+-- the records without the one of an id
+pub records_without : (id : ℕ) (entries : List Entry) → map record_of (without_entry id entries) ≡ filter (λ (r : Record). not (r.id == id)) (map record_of entries)
+records_without id [] = refl
+records_without id (e ∷ es) = go (e.id == id) (records_without id es)
+  where
+    go : (b : Bool) → map record_of (without_entry id es) ≡ filter (λ (r : Record). not (r.id == id)) (map record_of es)
+        → map record_of (cond (not b) (e ∷ without_entry id es) (without_entry id es)) ≡ cond (not b) (record_of e ∷ filter (λ (r : Record). not (r.id == id)) (map record_of es)) (filter (λ (r : Record). not (r.id == id)) (map record_of es))
+    go true later = later
+    go false later = ap (λ rs. record_of e ∷ rs) later
+
+-- where the record of an id starts and ends
+pub range_at : (entries : List Entry) (id : ℕ) (e : Entry) → Apart (map record_of entries) → EntryAt entries id e → RangeOf id (map record_of entries) (record_of e)
+range_at entries id e apart at =
+    let found : Found (λ (r : Record). r.id == id) (map record_of entries) = record { front = map record_of at.front; item = record_of e; back = map record_of at.back; is = records_at entries id e at; passes = eq-eqb e.id id at.same_id } in
+    range_of id (map record_of entries) apart found
