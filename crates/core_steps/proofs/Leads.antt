@@ -3,6 +3,7 @@ use Rattle.std.proofs.Common.{◌≡◌, ℕ, ◌+◌, ◌<◌, List, [], ◌∷
 use Rattle.tag_model.specs.declared.shape.Shape.{Shape}
 use Rattle.tag_model.specs.declared.state.Hand.{Hand}
 use Rattle.tag_model.specs.declared.state.Held.{Held}
+use Rattle.tag_model.specs.declared.state.Run.{Run}
 use Rattle.tag_model.specs.declared.state.Held.TheVariants as held
 use Rattle.tag_model.specs.declared.state.Part.{Part}
 use Rattle.tag_model.specs.declared.state.Part.TheVariants.{Cpu, Place}
@@ -24,29 +25,29 @@ pub record Keeps (k : Shape) (v w : List Part) : Type 0 where
 leads : (k : Shape) (v w old new : List Part) → Keeps k v w → Becomes v w old new → Leads k old new
 leads k v w old new keeps becomes = record { steps = record { v = v; w = w; row = keeps.row; becomes = becomes }; safe = keeps.safe old new becomes }
 
-pub leads_cpu : (k : Shape) (hands : List (Option Hand)) (words : List (List ℕ)) (rest : List Part) (cpu : ℕ) (hand : Option Hand) (own : List ℕ)
+pub leads_cpu : (k : Shape) (hands : List (Option Hand)) (words : List (List ℕ)) (runs : ℕ → List Run) (rest : List Part) (cpu : ℕ) (hand : Option Hand) (own : List ℕ)
     → length hands ≡ length words → cpu < length hands
-    → Keeps k (Cpu (cpu_part (0 + cpu) (get_or hands cpu None) (get_or words cpu [])) ∷ []) (Cpu (cpu_part (0 + cpu) hand own) ∷ [])
-    → Leads k (cpu_parts 0 hands words ++ rest) (cpu_parts 0 (set hands cpu hand) (set words cpu own) ++ rest)
-leads_cpu k hands words rest cpu hand own len below keeps =
-    let old = Cpu (cpu_part (0 + cpu) (get_or hands cpu None) (get_or words cpu [])) in
-    let new = Cpu (cpu_part (0 + cpu) hand own) in
-    let there = length-cpu_parts 0 hands words len in
-    rw (cpu_parts-set 0 hands words cpu hand own len below)
-    (leads k (old ∷ []) (new ∷ []) _ _ keeps (becomes_first (cpu_parts 0 hands words) rest cpu old new (omega arith) (get_or-cpu_parts 0 hands words cpu old len below)))
+    → Keeps k (Cpu (cpu_part (0 + cpu) (get_or hands cpu None) (get_or words cpu []) (runs (0 + cpu))) ∷ []) (Cpu (cpu_part (0 + cpu) hand own (runs (0 + cpu))) ∷ [])
+    → Leads k (cpu_parts 0 hands words runs ++ rest) (cpu_parts 0 (set hands cpu hand) (set words cpu own) runs ++ rest)
+leads_cpu k hands words runs rest cpu hand own len below keeps =
+    let old = Cpu (cpu_part (0 + cpu) (get_or hands cpu None) (get_or words cpu []) (runs (0 + cpu))) in
+    let new = Cpu (cpu_part (0 + cpu) hand own (runs (0 + cpu))) in
+    let there = length-cpu_parts 0 hands words runs len in
+    rw (cpu_parts-set 0 hands words runs cpu hand own len below)
+    (leads k (old ∷ []) (new ∷ []) _ _ keeps (becomes_first (cpu_parts 0 hands words runs) rest cpu old new (omega arith) (get_or-cpu_parts 0 hands words runs cpu old len below)))
 
-pub leads_place : (k : Shape) (hands : List (Option Hand)) (words : List (List ℕ)) (places : List Held) (rest : List Part) (cpu key : ℕ) (hand : Option Hand) (own : List ℕ) (next : Held)
+pub leads_place : (k : Shape) (hands : List (Option Hand)) (words : List (List ℕ)) (runs : ℕ → List Run) (places : List Held) (rest : List Part) (cpu key : ℕ) (hand : Option Hand) (own : List ℕ) (next : Held)
     → length hands ≡ length words → cpu < length hands → key < length places
-    → Keeps k (Cpu (cpu_part (0 + cpu) (get_or hands cpu None) (get_or words cpu [])) ∷ Place (0 + key) (get_or places key held.None) ∷ []) (Cpu (cpu_part (0 + cpu) hand own) ∷ Place (0 + key) next ∷ [])
-    → Leads k (cpu_parts 0 hands words ++ (place_parts 0 places ++ rest)) (cpu_parts 0 (set hands cpu hand) (set words cpu own) ++ (place_parts 0 (set places key next) ++ rest))
-leads_place k hands words places rest cpu key hand own next len below within keeps =
-    let old = Cpu (cpu_part (0 + cpu) (get_or hands cpu None) (get_or words cpu [])) in
-    let new = Cpu (cpu_part (0 + cpu) hand own) in
+    → Keeps k (Cpu (cpu_part (0 + cpu) (get_or hands cpu None) (get_or words cpu []) (runs (0 + cpu))) ∷ Place (0 + key) (get_or places key held.None) ∷ []) (Cpu (cpu_part (0 + cpu) hand own (runs (0 + cpu))) ∷ Place (0 + key) next ∷ [])
+    → Leads k (cpu_parts 0 hands words runs ++ (place_parts 0 places ++ rest)) (cpu_parts 0 (set hands cpu hand) (set words cpu own) runs ++ (place_parts 0 (set places key next) ++ rest))
+leads_place k hands words runs places rest cpu key hand own next len below within keeps =
+    let old = Cpu (cpu_part (0 + cpu) (get_or hands cpu None) (get_or words cpu []) (runs (0 + cpu))) in
+    let new = Cpu (cpu_part (0 + cpu) hand own (runs (0 + cpu))) in
     let was = Place (0 + key) (get_or places key held.None) in
     let will = Place (0 + key) next in
-    let there = length-cpu_parts 0 hands words len in
+    let there = length-cpu_parts 0 hands words runs len in
     let there' = length-place_parts 0 places in
-    rw (cpu_parts-set 0 hands words cpu hand own len below, place_parts-set 0 places key next within)
+    rw (cpu_parts-set 0 hands words runs cpu hand own len below, place_parts-set 0 places key next within)
     (leads k (old ∷ was ∷ []) (new ∷ will ∷ []) _ _ keeps
-    (becomes_both (cpu_parts 0 hands words) (place_parts 0 places) rest cpu key old new was will (omega arith) (get_or-cpu_parts 0 hands words cpu old len below)
+    (becomes_both (cpu_parts 0 hands words runs) (place_parts 0 places) rest cpu key old new was will (omega arith) (get_or-cpu_parts 0 hands words runs cpu old len below)
     (omega arith) (get_or-place_parts 0 places key was within)))
