@@ -4,6 +4,7 @@ pub mod Takes
 pub mod Hands
 pub mod Splits
 pub mod Ready
+pub mod GoesIn
 pub mod Kept
 pub mod Queued
 pub mod Left
