@@ -4,3 +4,4 @@ pub mod Changes
 pub mod Kept
 pub mod Refused
 pub mod Methods
+pub mod Ends
