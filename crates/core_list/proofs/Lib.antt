@@ -2,3 +2,5 @@ pub mod Split
 pub mod Room
 pub mod Changes
 pub mod Kept
+pub mod Refused
+pub mod Methods
