@@ -28,11 +28,13 @@ use Rattle.module_area.specs.declared.entry.State.TheVariants.{Loaded, Dead}
 use Rattle.module_area.specs.Area.{Area, IsBook}
 use Rattle.module_area.specs.Entries.{entry_of, is_loaded_at, is_loaded_as as is_loaded_section}
 use Rattle.module_area.proofs.EntryLemmas.{find_some}
-use Rattle.core_list.specs.ListState.{ListState, is_dead, list_part, loaded_entry, record_of, records_of, run_of}
+use Rattle.core_list.specs.ListState.{ListState, is_dead, is_some_entry, list_part, loaded_entry, record_of, records_of, run_of}
 use Rattle.core_list.proofs.Split.{the_entry, book_apart, book_entry_at, records_at}
-use Rattle.core_steps.specs.Machine.{Machine, hand_at, run_at}
-use Rattle.core_steps.specs.Modules.{inside_at}
-use Rattle.core_steps.specs.CoreState.{CoreState, IsCore, HasUser, HasUserLeft, cpu_part, cpu_parts, place_parts, list_parts, runs_of, state_with, state_after, word_state, words_at}
+use Rattle.core_steps.specs.declared.op.StepRefused.TheVariants.{ListHeld, NotRunning, Inside, NotLoaded}
+use Rattle.core_steps.specs.declared.step.WordStep.TheVariants.{GoIn, GoOut}
+use Rattle.core_steps.specs.Machine.{Machine, hand_at, run_at, is_run, enter_refusal, leave_refusal}
+use Rattle.core_steps.specs.Modules.{ModuleTable, inside_at, scene_at}
+use Rattle.core_steps.specs.CoreState.{CoreState, IsCore, HasUser, HasUserLeft, ListFits, cpu_part, cpu_parts, place_parts, list_parts, runs_of, state_with, state_after, word_state, words_at}
 use Rattle.core_steps.proofs.Parts.{becomes_list, becomes_cpu_list, length-cpu_parts, get_or-cpu_parts, cpu_parts-runs, sum_both, sum_two}
 use Rattle.core_steps.proofs.InsideFacts.{taken_out, stands_at}
 
@@ -256,3 +258,56 @@ has_user s core cpu below section = go (run_at (inside_at s.modules cpu) section
     go : (o : Option Run) → run_at (inside_at s.modules cpu) section ≡ o → HasUser s.modules.list o
     go None is = tt
     go (Some r) is = run_has_user s core cpu below section r is
+
+-- ---- when a CPU may go in and out
+
+pub record MayEnter (ms : ModuleTable) (cpu section : ℕ) : Type 0 where
+  pub entry : Entry
+  pub is : loaded_entry section ms.list ≡ Some entry
+  pub outside : run_at (inside_at ms cpu) section ≡ None
+
+pub may_enter : (ms : ModuleTable) (cpu section : ℕ) → enter_refusal (scene_at ms cpu) section ≡ None → MayEnter ms cpu section
+may_enter ms cpu section none = free ms.manager.under_way none
+  where
+    slot : (e : Entry) → loaded_entry section ms.list ≡ Some e → (o : Option Run) → run_at (inside_at ms cpu) section ≡ o → (if is_run o then Some (Inside section) else None) ≡ None → MayEnter ms cpu section
+    slot e is None outside none = record { entry = e; is = is; outside = outside }
+    slot e is (Some r) outside none = absurd (cc)
+
+    named : (o : Option Entry) → loaded_entry section ms.list ≡ o
+        → (if not (is_some_entry o) then Some (NotLoaded section) else (if is_run (run_at (inside_at ms cpu) section) then Some (Inside section) else None)) ≡ None → MayEnter ms cpu section
+    named None is none = absurd (cc)
+    named (Some e) is none = slot e is (run_at (inside_at ms cpu) section) refl none
+
+    free : (held : Bool)
+        → (if held then Some ListHeld else (if not (is_some_entry (loaded_entry section ms.list)) then Some (NotLoaded section) else (if is_run (run_at (inside_at ms cpu) section) then Some (Inside section) else None))) ≡ None
+        → MayEnter ms cpu section
+    free true none = absurd (cc)
+    free false none = named (loaded_entry section ms.list) refl none
+
+pub record MayLeave (ms : ModuleTable) (cpu section : ℕ) : Type 0 where
+  pub run : Run
+  pub is : run_at (inside_at ms cpu) section ≡ Some run
+
+pub may_leave : (ms : ModuleTable) (cpu section : ℕ) → leave_refusal (scene_at ms cpu) section ≡ None → MayLeave ms cpu section
+may_leave ms cpu section none = free ms.manager.under_way none
+  where
+    slot : (o : Option Run) → run_at (inside_at ms cpu) section ≡ o → (if not (is_run o) then Some (NotRunning section) else None) ≡ None → MayLeave ms cpu section
+    slot None is none = absurd (cc)
+    slot (Some r) is none = record { run = r; is = is }
+
+    free : (held : Bool) → (if held then Some ListHeld else (if not (is_run (run_at (inside_at ms cpu) section)) then Some (NotRunning section) else None)) ≡ None → MayLeave ms cpu section
+    free true none = absurd (cc)
+    free false none = slot (run_at (inside_at ms cpu) section) refl none
+
+-- the list can count the CPU that goes in, or out
+pub in_fits : (s : CoreState) → IsCore s → (cpu : ℕ) → cpu < s.shape.cpus → (section : ℕ) → section < length s.sections → enter_refusal (scene_at s.modules cpu) section ≡ None → ListFits (GoIn section) s.modules cpu
+in_fits s core cpu below section within none =
+    let may = may_enter s.modules cpu section none in
+    (
+      omega (arith, core.modules.cpus),
+      omega (arith, core.modules.slots cpu below),
+      subst (λ (o : Option Entry). HasUserLeft s.modules.list o) (sym may.is) (user_left s core cpu below section may.entry may.is may.outside),
+    )
+
+pub out_fits : (s : CoreState) → IsCore s → (cpu : ℕ) → cpu < s.shape.cpus → (section : ℕ) → section < length s.sections → ListFits (GoOut section) s.modules cpu
+out_fits s core cpu below section within = (omega (arith, core.modules.cpus), omega (arith, core.modules.slots cpu below), has_user s core cpu below section)
