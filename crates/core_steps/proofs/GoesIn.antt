@@ -2,6 +2,7 @@
 use Rattle.std.proofs.Common.{◌≡◌, ◌≢◌, ℕ, zero, suc, ◌+◌, ◌<◌, ◌≤◌, ◌==◌, ◌&&◌, List, [], ◌∷◌, ◌++◌, length, get_or, set, map, sum_by, count_by, Contains, AllPairs, IsSomeAnd, if◌then◌else◌, inl, inr, refl, sym, ap, ◌∙◌, subst, arith, zero-add, add-zero, Bool, true, false, not, Option, Some, None, eq-eqb, eqb-true, ne_eqb}
 use Rattle.std.specs.List.{list_any}
 use Rattle.std.proofs.lemmas.Bool.{and_from, false≢true, cond-true, cond-false, cases_lt}
+use Rattle.std.proofs.lemmas.List.{get_or-set_same, get_or-set_other}
 use Rattle.std.proofs.lemmas.List.Sums.{sum_by-cons}
 use Rattle.std.proofs.lemmas.Option.{none-some, same_Some}
 use Rattle.tag_model.specs.declared.shape.Shape.{Shape}
@@ -13,12 +14,14 @@ use Rattle.tag_model.specs.declared.state.Part.TheVariants.{Cpu, Place, Modules,
 use Rattle.tag_model.specs.declared.state.Record.{Record}
 use Rattle.tag_model.specs.declared.state.Run.{Run}
 use Rattle.tag_model.specs.Laws.{Safe, is_loaded_as}
-use Rattle.tag_model.specs.StepRules.{Becomes}
+use Rattle.tag_model.specs.StepRules.{Becomes, GivesRun, Leaves, Steps, StepsWith, TakesRun, enters, gives, gives_run, leaves, takes, takes_run}
+use Rattle.tag_model.specs.Reference.{is_settled}
 use Rattle.tag_model.specs.WordState.{runs_with, users_of}
 use Rattle.tag_model.proofs.BookRows.{safe-reads}
 use Rattle.tag_model.proofs.Found.{found, found_any, any_at, count_at}
 use Rattle.tag_model.proofs.Ids.{field_here}
 use Rattle.tag_model.proofs.ListRows.{list_with_cpu}
+use Rattle.tag_model.proofs.Steps.{safe-steps_with}
 use Rattle.tag_model.proofs.Swept.{loaded_as_means, holds_first}
 use Rattle.tag_model.proofs.Told.{run_is_loaded, one_run_each, users_are_runs}
 use Rattle.module_area.specs.declared.book.TheConstants.{USER_LIMIT}
@@ -28,15 +31,16 @@ use Rattle.module_area.specs.declared.entry.State.TheVariants.{Loaded, Dead}
 use Rattle.module_area.specs.Area.{Area, IsBook}
 use Rattle.module_area.specs.Entries.{entry_of, is_loaded_at, is_loaded_as as is_loaded_section}
 use Rattle.module_area.proofs.EntryLemmas.{find_some}
-use Rattle.core_list.specs.ListState.{ListState, is_dead, is_some_entry, list_part, loaded_entry, record_of, records_of, run_of}
+use Rattle.core_list.specs.ListState.{ListState, is_dead, is_some_entry, entered_list, left_list, list_part, loaded_entry, record_of, records_of, run_of}
+use Rattle.core_list.proofs.Changes.{row-enters, row-leaves}
 use Rattle.core_list.proofs.Split.{the_entry, book_apart, book_entry_at, records_at}
 use Rattle.core_steps.specs.declared.op.StepRefused.TheVariants.{ListHeld, NotRunning, Inside, NotLoaded}
 use Rattle.core_steps.specs.declared.step.WordStep.TheVariants.{GoIn, GoOut}
 use Rattle.core_steps.specs.Machine.{Machine, hand_at, run_at, is_run, enter_refusal, leave_refusal}
-use Rattle.core_steps.specs.Modules.{ModuleTable, inside_at, scene_at}
-use Rattle.core_steps.specs.CoreState.{CoreState, IsCore, HasUser, HasUserLeft, ListFits, cpu_part, cpu_parts, place_parts, list_parts, runs_of, state_with, state_after, word_state, words_at}
+use Rattle.core_steps.specs.Modules.{ModuleTable, goes_in, goes_out, inside_at, modules_after, scene_at, with_inside}
+use Rattle.core_steps.specs.CoreState.{CoreState, IsCore, HasUser, HasUserLeft, ListFits, cpu_part, cpu_parts, place_parts, list_parts, runs_in, runs_of, state_of, state_with, state_after, word_state, words_at}
 use Rattle.core_steps.proofs.Parts.{becomes_list, becomes_cpu_list, length-cpu_parts, get_or-cpu_parts, cpu_parts-runs, sum_both, sum_two}
-use Rattle.core_steps.proofs.InsideFacts.{taken_out, stands_at}
+use Rattle.core_steps.proofs.InsideFacts.{put_in, taken_out, stands_at}
 
 -- ---- the parts that a CPU and the module list are
 
@@ -311,3 +315,101 @@ in_fits s core cpu below section within none =
 
 pub out_fits : (s : CoreState) → IsCore s → (cpu : ℕ) → cpu < s.shape.cpus → (section : ℕ) → section < length s.sections → ListFits (GoOut section) s.modules cpu
 out_fits s core cpu below section within = (omega (arith, core.modules.cpus), omega (arith, core.modules.slots cpu below), has_user s core cpu below section)
+
+-- ---- a CPU's slots with one that is set
+
+pub inside_here : (ms : ModuleTable) (cpu section : ℕ) (o : Option Run) (list : ListState) → cpu < length ms.inside → inside_at (with_inside ms cpu section o list) cpu ≡ set (inside_at ms cpu) section o
+inside_here ms cpu section o list below = get_or-set_same ms.inside cpu (set (inside_at ms cpu) section o) [] below
+
+pub inside_other : (ms : ModuleTable) (cpu section : ℕ) (o : Option Run) (list : ListState) (j : ℕ) → j ≢ cpu → inside_at (with_inside ms cpu section o list) j ≡ inside_at ms j
+inside_other ms cpu section o list j apart = get_or-set_other ms.inside cpu j (set (inside_at ms cpu) section o) [] apart
+
+-- ---- each is a step of the step rules
+
+-- the CPU has its run from the list, on which it was on its way
+in_by : (s : CoreState) → IsCore s → (cpu : ℕ) → cpu < s.shape.cpus → (section : ℕ) → section < length s.sections → (e : Entry) → loaded_entry section s.modules.list ≡ Some e → run_at (inside_at s.modules cpu) section ≡ None
+    → (reads : ℕ) → StepsWith s.shape (state_after reads s) (state_of reads s.machine s.words (goes_in s.modules cpu section (Some e)))
+in_by s core cpu below section within e is none reads =
+    let ms = s.modules in
+    let m = s.machine in
+    let loaded = loaded_is section ms.list e core.modules.list.book is in
+    let list = entered_list e.id ms.list in
+    let new = with_inside ms cpu section (Some (run_of e)) list in
+    let first : Steps s.shape (state_after reads s) (state_with reads (run_of e ∷ []) m s.words (runs_of ms) list) = record {
+      v = Modules (list_part reads [] ms.list) ∷ [];
+      w = Modules (list_part reads (run_of e ∷ []) list) ∷ [];
+      row = enters (row-enters ms.list reads e.id e [] core.modules.list loaded.by_id loaded.loaded);
+      becomes = list_becomes reads m s.words (runs_of ms) [] (run_of e ∷ []) ms.list list.area;
+    } in
+    let put = put_in (inside_at ms cpu) section (run_of e) (omega (arith, core.modules.slots cpu below)) none in
+    let here : runs_of new cpu ≡ put.front ++ run_of e ∷ put.back = ap runs_in (inside_here ms cpu section (Some (run_of e)) list (omega (arith, core.modules.cpus))) ∙ put.all in
+    let move : GivesRun (own_part m s.words cpu (runs_of ms cpu)) (own_part m s.words cpu (runs_of new cpu)) (list_part reads (run_of e ∷ []) list) (list_part reads [] list) = record {
+      front = put.front;
+      run = run_of e;
+      back = put.back;
+      runs = [];
+      away = refl;
+      first = none_on s core cpu below section e loaded none;
+      had = put.others;
+      cpu = ap (own_part m s.words cpu) here;
+      list = refl;
+    } in
+    gives first (gives_run move)
+    (own_becomes reads m s.words cpu (omega (arith, core.machine.hands, core.words)) (omega (arith, core.machine.hands)) (runs_of ms) (runs_of new) (run_of e ∷ []) [] list
+    (λ j apart. ap runs_in (inside_other ms cpu section (Some (run_of e)) list j apart)))
+
+-- a CPU goes in
+pub goes_in_row : (s : CoreState) → IsCore s → (cpu : ℕ) → cpu < s.shape.cpus → (section : ℕ) → section < length s.sections → enter_refusal (scene_at s.modules cpu) section ≡ None
+    → (reads : ℕ) → StepsWith s.shape (state_of reads s.machine s.words s.modules) (state_of reads s.machine s.words (modules_after (GoIn section) s.modules cpu))
+goes_in_row s core cpu below section within free reads =
+    let may = may_enter s.modules cpu section free in
+    subst (λ (o : Option Entry). StepsWith s.shape (state_after reads s) (state_of reads s.machine s.words (goes_in s.modules cpu section o))) (sym may.is) (in_by s core cpu below section within may.entry may.is may.outside reads)
+
+pub goes_in_safe : (s : CoreState) → IsCore s → (cpu : ℕ) → cpu < s.shape.cpus → (section : ℕ) → section < length s.sections → enter_refusal (scene_at s.modules cpu) section ≡ None
+    → (reads : ℕ) → Safe s.shape (state_of reads s.machine s.words (modules_after (GoIn section) s.modules cpu))
+goes_in_safe s core cpu below section within free reads =
+    safe-steps_with s.shape (state_after reads s) _ core.shape (goes_in_row s core cpu below section within free reads) (safe_after s core reads)
+
+-- the CPU's run is on its way to the list, and ends there
+out_by : (s : CoreState) → IsCore s → (cpu : ℕ) → cpu < s.shape.cpus → (section : ℕ) → section < length s.sections → (r : Run) → run_at (inside_at s.modules cpu) section ≡ Some r → hand_at s.machine cpu ≡ None
+    → (reads : ℕ) → StepsWith s.shape (state_after reads s) (state_of reads s.machine s.words (goes_out s.modules cpu section (Some r)))
+out_by s core cpu below section within r is free reads =
+    let ms = s.modules in
+    let m = s.machine in
+    let own = run_entry s core cpu below section r is in
+    let list = left_list r.id ms.list in
+    let new = with_inside ms cpu section None list in
+    let out = taken_out (inside_at ms cpu) section r is in
+    let here : runs_of new cpu ≡ out.front ++ out.back = ap runs_in (inside_here ms cpu section None list (omega (arith, core.modules.cpus))) ∙ out.others in
+    let move : TakesRun (own_part m s.words cpu (runs_of ms cpu)) (own_part m s.words cpu (runs_of new cpu)) (list_part reads [] ms.list) (list_part reads (r ∷ []) ms.list) = record {
+      front = out.front;
+      run = r;
+      back = out.back;
+      settled = ap is_settled free;
+      has = out.all;
+      cpu = ap (own_part m s.words cpu) here;
+      list = refl;
+    } in
+    let leave : Leaves (list_part reads (r ∷ []) ms.list) (list_part reads [] list) =
+        subst (λ (x : Run). Leaves (list_part reads (x ∷ []) ms.list) (list_part reads [] list)) own.run (row-leaves ms.list reads r.id own.entry [] core.modules.list own.is) in
+    let last : Steps s.shape (state_with reads (r ∷ []) m s.words (runs_of new) ms.list) (state_of reads m s.words new) = record {
+      v = Modules (list_part reads (r ∷ []) ms.list) ∷ [];
+      w = Modules (list_part reads [] list) ∷ [];
+      row = leaves leave;
+      becomes = list_becomes reads m s.words (runs_of new) (r ∷ []) [] ms.list list.area;
+    } in
+    takes (takes_run move)
+    (own_becomes reads m s.words cpu (omega (arith, core.machine.hands, core.words)) (omega (arith, core.machine.hands)) (runs_of ms) (runs_of new) [] (r ∷ []) ms.list
+    (λ j apart. ap runs_in (inside_other ms cpu section None list j apart))) last
+
+-- a CPU goes out
+pub goes_out_row : (s : CoreState) → IsCore s → (cpu : ℕ) → cpu < s.shape.cpus → (section : ℕ) → section < length s.sections → leave_refusal (scene_at s.modules cpu) section ≡ None → hand_at s.machine cpu ≡ None
+    → (reads : ℕ) → StepsWith s.shape (state_of reads s.machine s.words s.modules) (state_of reads s.machine s.words (modules_after (GoOut section) s.modules cpu))
+goes_out_row s core cpu below section within may_go free reads =
+    let may = may_leave s.modules cpu section may_go in
+    subst (λ (o : Option Run). StepsWith s.shape (state_after reads s) (state_of reads s.machine s.words (goes_out s.modules cpu section o))) (sym may.is) (out_by s core cpu below section within may.run may.is free reads)
+
+pub goes_out_safe : (s : CoreState) → IsCore s → (cpu : ℕ) → cpu < s.shape.cpus → (section : ℕ) → section < length s.sections → leave_refusal (scene_at s.modules cpu) section ≡ None → hand_at s.machine cpu ≡ None
+    → (reads : ℕ) → Safe s.shape (state_of reads s.machine s.words (modules_after (GoOut section) s.modules cpu))
+goes_out_safe s core cpu below section within may_go free reads =
+    safe-steps_with s.shape (state_after reads s) _ core.shape (goes_out_row s core cpu below section within may_go free reads) (safe_after s core reads)
