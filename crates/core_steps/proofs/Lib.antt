@@ -16,3 +16,5 @@ pub mod Runs
 pub mod Steps
 pub mod Quiet
 pub mod SplitRun
+pub mod InsideFacts
+pub mod GoesIn
