@@ -17,3 +17,4 @@ pub mod Quiet
 pub mod SplitRun
 pub mod Managed
 pub mod Manages
+pub mod ManagerRow
