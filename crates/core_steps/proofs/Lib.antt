@@ -17,4 +17,5 @@ pub mod Quiet
 pub mod SplitRun
 pub mod Managed
 pub mod Manages
+pub mod Found
 pub mod ManagerRow
