@@ -19,3 +19,4 @@ pub mod Managed
 pub mod Manages
 pub mod Found
 pub mod ManagerRow
+pub mod ManagerCore
