@@ -125,7 +125,7 @@ manager_core s core none = record {
 
 -- ---- an op is queued
 
-all_push : (P : Op → Type 0) (ops : List Op) (op : Op) → AllByRecursion P ops → P op → AllByRecursion P (ops ++ op ∷ [])
+pub all_push : (P : Op → Type 0) (ops : List Op) (op : Op) → AllByRecursion P ops → P op → AllByRecursion P (ops ++ op ∷ [])
 all_push P [] op are is = (is, tt)
 all_push P (x ∷ ops) op are is = (are.0, all_push P ops op are.1 is)
 
