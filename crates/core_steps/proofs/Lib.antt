@@ -20,3 +20,4 @@ pub mod Manages
 pub mod Found
 pub mod ManagerRow
 pub mod ManagerCore
+pub mod ManagerLeft
