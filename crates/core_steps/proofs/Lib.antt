@@ -4,6 +4,7 @@ pub mod Takes
 pub mod Hands
 pub mod Splits
 pub mod Ready
+pub mod InsideFacts
 pub mod GoesIn
 pub mod Kept
 pub mod Queued
@@ -16,5 +17,9 @@ pub mod Runs
 pub mod Steps
 pub mod Quiet
 pub mod SplitRun
-pub mod InsideFacts
-pub mod GoesIn
+pub mod Managed
+pub mod Manages
+pub mod Found
+pub mod ManagerRow
+pub mod ManagerCore
+pub mod ManagerLeft
