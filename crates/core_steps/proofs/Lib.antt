@@ -15,3 +15,4 @@ pub mod Runs
 pub mod Steps
 pub mod Quiet
 pub mod SplitRun
+pub mod Loaded
