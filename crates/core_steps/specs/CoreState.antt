@@ -182,7 +182,8 @@ abbrev pub CanStep : Machine → ModuleTable → List (List ℕ) → ℕ → Lis
 CanStep m ms words cpu [] done = Unit {0}
 CanStep m ms words cpu (op ∷ ops) done =
     KeysFit op × (done < step_count op) × HasCall (hand_at m cpu) × CanTake (step_of op done (hand_at m cpu) m.places (inside_at ms cpu)) (hand_at m cpu) (length (words_at words cpu)) (length m.places)
-    × SectionsFit op (length (inside_at ms cpu)) × TagFits op (inside_at ms cpu)
+    × SectionsFit op (length (inside_at ms cpu))
+    × (refusal_in m (scene_at ms cpu) (op ∷ ops) done ≡ None → done ≡ 0 → TagFits op (inside_at ms cpu))
     × (refusal_in m (scene_at ms cpu) (op ∷ ops) done ≡ None → ListFits (step_of op done (hand_at m cpu) m.places (inside_at ms cpu)) ms cpu)
 
 -- what the CPU's next step reads and writes is there
