@@ -1,10 +1,12 @@
 -- The loaded module of a section is the entry of its id.
-use Rattle.std.proofs.Common.{◌≡◌, ℕ, zero, suc, ◌+◌, ◌<◌, ◌==◌, true, List, [], ◌∷◌, length, get_or, AllPairs, Contains, Some, refl, ap, ◌∙◌, arith, eq-eqb, ne_eqb, eqb-true}
+use Rattle.std.proofs.Common.{◌≡◌, ℕ, zero, suc, ◌+◌, ◌<◌, ◌==◌, true, List, [], ◌∷◌, length, get_or, AllPairs, Contains, Option, Some, None, refl, ap, subst, ◌∙◌, arith, eq-eqb, ne_eqb, eqb-true}
 use Rattle.std.proofs.lemmas.Bool.{cond-true, cond-false}
+use Rattle.std.proofs.lemmas.Option.{same_Some}
+use Rattle.std.specs.Option.{option_map}
 use Rattle.module_area.specs.declared.entry.Entry.{Entry}
 use Rattle.module_area.specs.declared.entry.State.{State}
 use Rattle.module_area.specs.declared.entry.State.TheVariants.{Loaded, Dead}
-use Rattle.module_area.specs.Entries.{entry_of, is_loaded_at, is_loaded_as}
+use Rattle.module_area.specs.Entries.{entry_of, id_loaded, is_loaded_at, is_loaded_as}
 use Rattle.module_area.proofs.EntryLemmas.{find_some}
 use Rattle.core_list.specs.ListState.{ListState, IsList, loaded_entry}
 
@@ -38,3 +40,11 @@ loaded_found section l e ok found =
     let f = find_some (is_loaded_as section) l.area.entries e found in
     let at = loaded_at section e f.1 in
     (entry_is_found l.area.entries e ok.book.rising f.0, at.state, at.same_section)
+
+-- so looking up its id gives it
+pub loaded_by_id : (section : ℕ) (l : ListState) (id : ℕ) → IsList l → id_loaded l.area.entries section ≡ Some id → entry_of l.area.entries id ≡ loaded_entry section l
+loaded_by_id section l id ok is = go (loaded_entry section l) refl is
+  where
+    go : (o : Option Entry) → loaded_entry section l ≡ o → option_map (λ (e : Entry). e.id) o ≡ Some id → entry_of l.area.entries id ≡ o
+    go None found is = absurd (cc)
+    go (Some e) found is = subst (λ n. entry_of l.area.entries n ≡ Some e) (same_Some e.id id is) (loaded_found section l e ok found).0
