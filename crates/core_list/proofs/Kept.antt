@@ -1,9 +1,10 @@
 -- Each change leaves a list that is one: the book stays a book, and the stops and the ids that are left are few.
-use Rattle.std.proofs.Common.{◌≡◌, ℕ, ◌+◌, ◌<◌, ◌≤◌, ◌==◌, ◌⊎◌, ◌≢◌, ◌&&◌, ◌∙◌, ap, nat_lt, List, [], ◌∷◌, ◌++◌, length, get_or, map, filter, find, All, AllPairs, Option, Some, None, refl, sym, subst, inl, inr, arith, Bool, true, false, not, cond, eq-eqb}
+use Rattle.std.proofs.Common.{◌≡◌, ℕ, ◌+◌, ◌<◌, ◌≤◌, ◌==◌, ◌⊎◌, ◌≢◌, ◌&&◌, ◌∙◌, ap, nat_lt, List, [], ◌∷◌, ◌++◌, length, get_or, slice_get, take, map, filter, find, All, AllPairs, Option, Some, None, refl, sym, subst, inl, inr, arith, Bool, true, false, not, cond, eq-eqb}
 use Rattle.std.specs.List.{list_any}
 use Rattle.std.proofs.lemmas.Bool.{and_parts, and_from, not-true, or_parts, cases_Bool, both_ways, cond-false, false≢true, ltb-true, eqb-true, lt-ltb}
-use Rattle.std.proofs.lemmas.List.{length-map, length-append, get_or-map}
-use Rattle.std.proofs.lemmas.List.Elements.{All-map, All-filter, All-push, All-weaker}
+use Rattle.std.proofs.lemmas.List.{length-map, length-append, get_or-map, map-append, map_more}
+use Rattle.std.proofs.lemmas.List.Elements.{All-map, All-filter, All-push, All-weaker, filter-append}
+use Rattle.std.proofs.lemmas.Option.{slice_get-get_or, same_Some}
 use Rattle.std.proofs.lemmas.List.Sums.{length-filter, count_by-le-length}
 use Rattle.tag_model.specs.declared.shape.Shape.{Shape}
 use Rattle.tag_model.specs.declared.state.Kind.{Kind}
@@ -26,8 +27,12 @@ use Rattle.module_area.proofs.EntryLemmas.{find_none}
 use Rattle.module_area.proofs.StartLemmas.{free_from_none}
 use Rattle.module_area.proofs.BookLemmas.{KeepsRange, IsBook-filter, IsBook-push}
 use Rattle.core_list.specs.declared.list.TheConstants.{LAST_ID}
-use Rattle.core_list.specs.ListState.{ListState, IsList, record_of, records_of, left_ids, load_refusal, loaded, loaded_entry, new_entry, or_zero, least_start, with_changed, entered_list, left_list, dead_list, swept_list, sum_read, scanned, scanned_at, released, released_at}
+use Rattle.core_list.specs.ListState.{ListState, IsList, is_dead, record_of, records_of, left_ids, load_refusal, loaded, loaded_entry, new_entry, or_zero, least_start, with_changed, entered_list, left_list, dead_list, swept_list, sum_read, scanned, scanned_at, released, released_at}
 use Rattle.core_list.proofs.Room.{MayLoad, may_load, FreeAt, least_is_free}
+
+-- a list by its parts
+abbrev pub list_of : Area → ℕ → Sweep → List Stop → ListState
+list_of area last_id sweep stops = record { area = area; last_id = last_id; sweep = sweep; stops = stops }
 
 -- ---- entries that keep their ranges
 
@@ -192,10 +197,10 @@ list_released l ok = go l.sweep ok.few
 
 -- ---- a load
 
-loaded_means : (section : ℕ) (e : Entry) → IsLoadedAs section e → is_loaded_as section e ≡ true
+pub loaded_means : (section : ℕ) (e : Entry) → IsLoadedAs section e → is_loaded_as section e ≡ true
 loaded_means section e is = rw is.0 (eq-eqb e.section section is.1)
 
-find_unmet : {X : Type 0} (p : X → Bool) (xs : List X) → list_any p xs ≡ false → find p xs ≡ None
+pub find_unmet : {X : Type 0} (p : X → Bool) (xs : List X) → list_any p xs ≡ false → find p xs ≡ None
 find_unmet p [] e = refl
 find_unmet p (x ∷ xs) e = let both = or_parts (p x) (list_any p xs) e in cond-false (p x) (Some x) (find p xs) both.0 ∙ find_unmet p xs both.1
 
@@ -221,3 +226,21 @@ list_loaded l section size ok some none =
       last = omega (arith, ok.last);
       few = ok.few;
     }
+
+-- ---- the dead among the first entries, and one more
+
+dead_push : (records : List Record) (r : Record) → dead_ids (records ++ r ∷ []) ≡ dead_ids records ++ cond r.dead (r.id ∷ []) []
+dead_push records r =
+    let id : Record → ℕ = λ x. x.id in
+    let dead : Record → Bool = λ x. x.dead in
+    ap (map id) (filter-append dead records (r ∷ [])) ∙ (map-append id (filter dead records) (filter dead (r ∷ [])) ∙ ap (λ ids. dead_ids records ++ ids) (go r.dead))
+  where
+    go : (b : Bool) → map (λ (x : Record). x.id) (cond b (r ∷ []) []) ≡ cond b (r.id ∷ []) []
+    go true = refl
+    go false = refl
+
+pub dead_more : (entries : List Entry) (i : ℕ) (e : Entry) → i < length entries → slice_get entries i ≡ Some e
+    → dead_ids (map record_of (take (i + 1) entries)) ≡ dead_ids (map record_of (take i entries)) ++ cond (is_dead e.state) (e.id ∷ []) []
+dead_more entries i e below here =
+    let is : get_or entries i e ≡ e = same_Some (get_or entries i e) e (sym (slice_get-get_or entries i e below) ∙ here) in
+    ap dead_ids (map_more record_of entries i e below ∙ ap (λ x. map record_of (take i entries) ++ record_of x ∷ []) is) ∙ dead_push (map record_of (take i entries)) (record_of e)

@@ -1,19 +1,22 @@
 -- The entries of a book as records of the list: ids stand once and rise, and the entry of an id stands between others.
-use Rattle.std.proofs.Common.{◌≡◌, ℕ, suc, ◌+◌, ◌<◌, ◌≤◌, ◌==◌, List, [], ◌∷◌, ◌++◌, map, filter, count_by, All, AllPairs, Some, refl, sym, ap, ◌∙◌, subst, arith, Bool, true, false, not, cond, eqb-true, eq-eqb, ne_eqb, lt-ltb}
-use Rattle.std.proofs.lemmas.Bool.{and_from, cond-true, cond-false, eqb-false}
+use Rattle.std.proofs.Common.{◌≡◌, ℕ, suc, ◌+◌, ◌<◌, ◌≤◌, ◌==◌, List, [], ◌∷◌, ◌++◌, map, filter, count_by, sum_by, inl, inr, ◌&&◌, ◌||◌, Option, None, All, AllPairs, Some, refl, sym, ap, ◌∙◌, subst, arith, Bool, true, false, not, cond, eqb-true, eq-eqb, ne_eqb, lt-ltb}
+use Rattle.std.specs.List.{list_any}
+use Rattle.std.proofs.lemmas.Bool.{and_from, and_parts, or_cases, false≢true, cond-true, cond-false, eqb-false}
 use Rattle.std.proofs.lemmas.List.{map-append}
-use Rattle.std.proofs.lemmas.List.Elements.{All-head}
+use Rattle.std.proofs.lemmas.List.Elements.{All-head, All-contains}
 use Rattle.std.proofs.lemmas.List.Sums.{sum_by-cons}
 use Rattle.std.proofs.lemmas.Option.{same_Some}
 use Rattle.tag_model.specs.declared.state.Record.{Record}
 use Rattle.tag_model.specs.Laws.{rises_from, ids_of}
-use Rattle.tag_model.proofs.Found.{Found}
+use Rattle.tag_model.specs.StepRules.{start_of, end_of}
+use Rattle.tag_model.proofs.Found.{Found, found_any, count_at}
 use Rattle.tag_model.proofs.Ids.{rises_cons, RangeOf, range_of}
 use Rattle.tag_model.proofs.Lists.{Apart}
 use Rattle.module_area.specs.declared.entry.Entry.{Entry}
 use Rattle.module_area.specs.Entries.{entry_of, with_entry, without_entry}
 use Rattle.module_area.specs.Area.{Area, IsBook}
-use Rattle.core_list.specs.ListState.{record_of}
+use Rattle.module_area.proofs.EntryLemmas.{find_some}
+use Rattle.core_list.specs.ListState.{record_of, start_in, end_in}
 
 -- ---- ids that rise
 
@@ -125,3 +128,67 @@ pub range_at : (entries : List Entry) (id : ℕ) (e : Entry) → Apart (map reco
 range_at entries id e apart at =
     let found : Found (λ (r : Record). r.id == id) (map record_of entries) = record { front = map record_of at.front; item = record_of e; back = map record_of at.back; is = records_at entries id e at; passes = eq-eqb e.id id at.same_id } in
     range_of id (map record_of entries) apart found
+
+-- a record of an id that passes a test is that of the id's entry
+pub record TheEntry (entries : List Entry) (id : ℕ) (test : Record → Bool) : Type 0 where
+  pub entry : Entry
+  pub is : entry_of entries id ≡ Some entry
+  pub passes : test (record_of entry) ≡ true
+
+the_entry_from : (low id : ℕ) (test : Record → Bool) (entries : List Entry) → rises_from low (ids_of (map record_of entries)) ≡ true → list_any (λ (r : Record). (r.id == id) && test r) (map record_of entries) ≡ true → TheEntry entries id test
+the_entry_from low id test [] rises there = absurd (false≢true there)
+the_entry_from low id test (x ∷ xs) rises there =
+    let both = rises_cons low x.id (ids_of (map record_of xs)) rises in
+    go (x.id == id) refl both.1 there (λ later. the_entry_from x.id id test xs both.1 later)
+  where
+    go : (b : Bool) → (x.id == id) ≡ b → rises_from x.id (ids_of (map record_of xs)) ≡ true → ((b && test (record_of x)) || list_any (λ (r : Record). (r.id == id) && test r) (map record_of xs)) ≡ true
+        → (list_any (λ (r : Record). (r.id == id) && test r) (map record_of xs) ≡ true → TheEntry xs id test) → TheEntry (x ∷ xs) id test
+    go true is rises there later =
+        let none = none_of_id id x.id (map record_of xs) (omega (arith, eqb-true x.id id is)) rises in
+        record {
+          entry = x;
+          is = cond-true (x.id == id) (Some x) (entry_of xs id) is;
+          passes = elim (or_cases (test (record_of x)) (list_any (λ (r : Record). (r.id == id) && test r) (map record_of xs)) there) [
+            | inl here ↦ here
+            | inr more ↦ (let f = found_any (λ (r : Record). (r.id == id) && test r) (map record_of xs) more in
+                let one = count_at (λ (r : Record). r.id == id) f.front f.item f.back (and_parts (f.item.id == id) (test f.item) f.passes).0 in
+                absurd (omega (arith, one, none, ap (count_by (λ (r : Record). r.id == id)) f.is)))
+          ];
+        }
+    go false is rises there later =
+        let l = later there in
+        record { entry = l.entry; is = cond-false (x.id == id) (Some x) (entry_of xs id) is ∙ l.is; passes = l.passes }
+
+pub the_entry : (area : Area) (id : ℕ) (test : Record → Bool) → IsBook area → list_any (λ (r : Record). (r.id == id) && test r) (map record_of area.entries) ≡ true → TheEntry area.entries id test
+the_entry area id test book there = the_entry_from 0 id test area.entries (book_rises area book) there
+
+-- where an id has no entry, none of the records has it
+none_there : (f : Record → ℕ) (id : ℕ) (entries : List Entry) → entry_of entries id ≡ None → sum_by (λ (r : Record). cond (r.id == id) (f r) 0) (map record_of entries) ≡ 0
+none_there f id [] none = refl
+none_there f id (x ∷ xs) none = go (x.id == id) refl none (λ later. none_there f id xs later)
+  where
+    go : (b : Bool) → (x.id == id) ≡ b → cond b (Some x) (entry_of xs id) ≡ None → (entry_of xs id ≡ None → sum_by (λ (r : Record). cond (r.id == id) (f r) 0) (map record_of xs) ≡ 0)
+        → sum_by (λ (r : Record). cond (r.id == id) (f r) 0) (map record_of (x ∷ xs)) ≡ 0
+    go true is none later = absurd (cc)
+    go false is none later =
+        let zero_here : cond {A = ℕ} (x.id == id) (f (record_of x)) 0 ≡ 0 = cond-false (x.id == id) (f (record_of x)) 0 is in
+        omega (arith, sum_by-cons (λ (r : Record). cond (r.id == id) (f r) 0) (record_of x) (map record_of xs), later none)
+
+-- where the record of an id starts and ends, by its entry
+pub start_found : (area : Area) (id : ℕ) → IsBook area → start_of id (map record_of area.entries) ≡ start_in (entry_of area.entries id)
+start_found area id book = go (entry_of area.entries id) refl
+  where
+    go : (o : Option Entry) → entry_of area.entries id ≡ o → start_of id (map record_of area.entries) ≡ start_in o
+    go None is = none_there (λ r. r.start) id area.entries is
+    go (Some e) is = (range_at area.entries id e (book_apart area book) (book_entry_at area id e book is)).start
+
+pub end_found : (area : Area) (id : ℕ) → IsBook area → end_of id (map record_of area.entries) ≡ end_in (entry_of area.entries id)
+end_found area id book = go (entry_of area.entries id) refl
+  where
+    go : (o : Option Entry) → entry_of area.entries id ≡ o → end_of id (map record_of area.entries) ≡ end_in o
+    go None is = none_there (λ r. r.start + r.length) id area.entries is
+    go (Some e) is = (range_at area.entries id e (book_apart area book) (book_entry_at area id e book is)).end
+
+-- what holds of each entry holds of that of an id
+pub entry_holds : (P : Entry → Type 0) (entries : List Entry) (id : ℕ) (e : Entry) → All P entries → entry_of entries id ≡ Some e → P e
+entry_holds P entries id e all is = All-contains P entries e all (find_some (λ (x : Entry). x.id == id) entries e is).0

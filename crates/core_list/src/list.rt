@@ -10,7 +10,11 @@ ghost use Rattle.module_area.specs.Area.{IsBook};
 ghost use Rattle.module_area.specs.declared.entry.State.TheVariants as state;
 ghost use Rattle.tag_model.specs.Laws.{are_dead, sweep_fits};
 ghost use Rattle.module_area.specs.declared.book.TheConstants.{USER_LIMIT, TAG_LIMIT};
-ghost use Rattle.core_list.specs.ListState.{ListState, IsList, load_refusal, loaded, entered_list, left_list, dead_list, swept_list, scanned, found_at, released, next_of, left_ids, records_of, fresh_list};
+ghost use Rattle.std.specs.Prelude.{find, map, nat_lt, vec_capacity};
+ghost use Rattle.tag_model.specs.StepRules.{after_pass, begins_pass, dead_ids, end_of, passes_record, start_of};
+ghost use Rattle.module_area.specs.declared.book.TheConstants.{BOOK_LIMIT};
+ghost use Rattle.core_list.specs.Stages.{passes_tag, sweep_of};
+ghost use Rattle.core_list.specs.ListState.{record_of, ListState, IsList, load_refusal, loaded, entered_list, left_list, dead_list, swept_list, scanned, found_at, released, next_of, left_ids, records_of, fresh_list};
 
 use module_area::book::{BOOK_LIMIT, TAG_LIMIT, USER_LIMIT};
 use module_area::{AreaError, Book, State};
@@ -145,7 +149,7 @@ impl CoreList {
         self.stops.clear();
         self.left.clear();
         self.left.push(id).unwrap();
-        self.begin(Kind::Bytes);
+        self.stage = begin(&self.book, &self.left, Kind::Bytes);
     }
 
     /// Begins a sweep of all dead modules, by rising id.
@@ -153,8 +157,8 @@ impl CoreList {
         ensures { self.new ≡ swept_list self.old }
     {
         self.stops.clear();
-        self.list_dead();
-        self.begin(Kind::Bytes);
+        list_dead(&self.book, &mut self.left);
+        self.stage = begin(&self.book, &self.left, Kind::Bytes);
     }
 
     /// The sweep reads a word. The answer is what takes a module off its list, if that does.
@@ -174,7 +178,7 @@ impl CoreList {
             return None;
         }
         if reader.sum == 0 {
-            self.next_tag(reader);
+            self.stage = next_tag(&self.book, &self.left, reader);
             return None;
         }
         let stop = Stop {
@@ -183,7 +187,9 @@ impl CoreList {
             kind: reader.pass,
             sum: reader.sum,
         };
-        self.drop_record(reader, stop);
+        self.stops.push(stop).unwrap();
+        self.left.retain(|other| *other != reader.id);
+        self.stage = pass_record(&self.book, &self.left, reader.pass, reader.id);
         Some(stop)
     }
 
@@ -197,78 +203,103 @@ impl CoreList {
             self.left.retain(|other| *other != id);
         }
     }
+}
 
-    // A pass over the list begins at its first module.
-    fn begin(&mut self, pass: Kind) {
-        self.stage = match self.left.first() {
-            None => Stage::Idle,
-            Some(id) => self.from_start(pass, *id),
-        };
+// The dead modules are put on the list.
+fn list_dead(book: &Book, left: &mut Vec<u32>)
+    requires { BOOK_LIMIT ≤ vec_capacity left.old }
+    ensures ids { left.new.items ≡ dead_ids (map record_of book.now.entries) }
+    ensures room { BOOK_LIMIT ≤ vec_capacity left.new }
+{
+    left.clear();
+    for place in 0..book.count() {
+        let entry = book.at(place);
+        if entry.state == State::Dead {
+            left.push(entry.id).unwrap();
+        }
     }
+}
 
-    // A pass stands at the first tag of a module, at CPU 0.
-    fn from_start(&self, pass: Kind, id: u32) -> Stage {
-        let tag = match self.book.get(id) {
-            Some(entry) => entry.start,
-            None => 0,
-        };
+// A pass stands at the first tag of a module, at CPU 0.
+fn from_start(book: &Book, pass: Kind, id: u32) -> Reader
+    ensures { result ≡ record { pass = pass; id = id; tag = start_of id (map record_of book.now.entries); cpu = 0; sum = 0 } }
+{
+    let tag = match book.get(id) {
+        Some(entry) => entry.start,
+        None => 0,
+    };
+    Reader {
+        pass,
+        id,
+        tag,
+        cpu: 0,
+        sum: 0,
+    }
+}
+
+// A pass over the list begins at its first module.
+fn begin(book: &Book, left: &[u32], pass: Kind) -> Stage
+    ensures { sweep_of result left.now ≡ begins_pass pass left.now (map record_of book.now.entries) }
+{
+    match left.first() {
+        None => Stage::Idle,
+        Some(id) => Stage::Reading(from_start(book, pass, *id)),
+    }
+}
+
+// Behind the pass of bytes comes that of calls, and behind that the releases.
+fn end_pass(book: &Book, left: &[u32], pass: Kind) -> Stage
+    ensures { sweep_of result left.now ≡ after_pass pass left.now (map record_of book.now.entries) }
+{
+    if left.is_empty() {
+        return Stage::Idle;
+    }
+    match pass {
+        Kind::Bytes => begin(book, left, Kind::Calls),
+        Kind::Calls => Stage::Done,
+    }
+}
+
+// The first id on the list that is above this one.
+fn next_above(left: &[u32], id: u32) -> Option<u32>
+    ensures { result ≡ find (nat_lt id) left.now }
+{
+    left.iter().copied().find(|other| id < *other)
+}
+
+// The pass is through with a module: it goes to the next one on its list, or ends.
+fn pass_record(book: &Book, left: &[u32], pass: Kind, id: u32) -> Stage
+    ensures { sweep_of result left.now ≡ passes_record pass left.now (map record_of book.now.entries) id }
+{
+    match next_above(left, id) {
+        Some(next) => Stage::Reading(from_start(book, pass, next)),
+        None => end_pass(book, left, pass),
+    }
+}
+
+// The tag is read, and nothing is counted under it.
+fn next_tag(book: &Book, left: &[u32], reader: Reader) -> Stage
+    requires { reader.tag < TAG_LIMIT }
+    ensures { sweep_of result left.now ≡ passes_tag left.now (map record_of book.now.entries) reader }
+{
+    if reader.tag + 1 < end_of(book, reader.id) {
         Stage::Reading(Reader {
-            pass,
-            id,
-            tag,
+            tag: reader.tag + 1,
             cpu: 0,
             sum: 0,
+            ..reader
         })
+    } else {
+        pass_record(book, left, reader.pass, reader.id)
     }
+}
 
-    // The dead modules are put on the list.
-    fn list_dead(&mut self) {
-        self.left.clear();
-        for place in 0..self.book.count() {
-            let entry = self.book.at(place);
-            if entry.state == State::Dead {
-                self.left.push(entry.id).unwrap();
-            }
-        }
-    }
-
-    // The tag is read, and nothing is counted under it.
-    fn next_tag(&mut self, mut reader: Reader) {
-        let last = match self.book.get(reader.id) {
-            Some(entry) => reader.tag + 1 >= entry.start + entry.length,
-            None => true,
-        };
-        if last {
-            self.pass_record(reader);
-        } else {
-            reader.tag += 1;
-            reader.cpu = 0;
-            reader.sum = 0;
-            self.stage = Stage::Reading(reader);
-        }
-    }
-
-    // Something is counted under the tag, so the module leaves the list.
-    fn drop_record(&mut self, reader: Reader, stop: Stop) {
-        self.stops.push(stop).unwrap();
-        self.left.retain(|other| *other != reader.id);
-        self.pass_record(reader);
-    }
-
-    // The pass is through with a module: it goes to the next one on its list, or ends.
-    fn pass_record(&mut self, reader: Reader) {
-        match self.left.iter().copied().find(|id| reader.id < *id) {
-            Some(next) => self.stage = self.from_start(reader.pass, next),
-            None => self.end_pass(reader.pass),
-        }
-    }
-
-    // Behind the pass of bytes comes that of calls, and behind that the releases.
-    fn end_pass(&mut self, pass: Kind) {
-        match pass {
-            Kind::Bytes => self.begin(Kind::Calls),
-            Kind::Calls if self.left.is_empty() => self.stage = Stage::Idle,
-            Kind::Calls => self.stage = Stage::Done,
-        }
+// The tag behind the last one of a module.
+fn end_of(book: &Book, id: u32) -> u32
+    ensures { result ≡ end_of id (map record_of book.now.entries) }
+{
+    match book.get(id) {
+        Some(entry) => entry.start + entry.length,
+        None => 0,
     }
 }
