@@ -4,6 +4,7 @@ pub mod Takes
 pub mod Hands
 pub mod Splits
 pub mod Ready
+pub mod Loaded
 pub mod InsideFacts
 pub mod GoesIn
 pub mod Kept
