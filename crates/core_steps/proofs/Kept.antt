@@ -192,7 +192,7 @@ module _ (s : CoreState) (cpu : ℕ) (core : IsCore s) (below : cpu < s.shape.cp
   leads_op reads (Enter section) ops done ready free n =
       let first : done ≡ 0 = omega (arith, ready.0.within) in
       list_leads reads (Enter section) ops (GoIn section) (advanced (Enter section ∷ ops) done) (modules_after (GoIn section) s.modules cpu) refl refl refl
-      (goes_in_row s core cpu below section ready.1.has_section (free first) n.ruled reads)
+      (goes_in_row s core cpu below section ready.1.has_section (free first) reads)
   leads_op reads (Leave section) ops done ready free n =
       let first : done ≡ 0 = omega (arith, ready.0.within) in
       list_leads reads (Leave section) ops (GoOut section) (advanced (Leave section ∷ ops) done) (modules_after (GoOut section) s.modules cpu) refl refl refl

@@ -9,12 +9,12 @@ use Rattle.core_steps.proofs.machine.Core.go_on.Goals.{After-self-4-1}
 
 -- the core before the call
 before : After-self-4-1 → CoreState
-before c = record { shape = c.self.inside.shape; kernel_len = c.self.inside.kernel_len; machine = machine_of c.self.inside.hands.items c.self.inside.places.items c.self.inside.waiting.items; words = c.self.inside.words.items }
+before c = record { shape = c.self.inside.shape; sections = c.self.inside.sections; machine = machine_of c.self.inside.hands.items c.self.inside.places.items c.self.inside.waiting.items; words = c.self.inside.words.items; modules = c.self.inside.modules }
 
 -- the core after it is one again
-core : (c : After-self-4-1) → IsCore (record (before c) { machine = machine_of c.step_on.new.hands c.step_on.new.places c.step_on.new.waiting; words = c.step_on.new.words })
+core : (c : After-self-4-1) → IsCore (record (before c) { machine = machine_of c.step_on.new.hands c.step_on.new.places c.step_on.new.waiting; words = c.step_on.new.words; modules = c.step_on.new.modules })
 unfolding before
-core c = core_after (before c) c.args.cpu c.step_on.new.hands c.step_on.new.places c.step_on.new.waiting c.step_on.new.words c.self.invariant c.step_on.result
+core c = core_after (before c) c.args.cpu c.step_on.new.hands c.step_on.new.places c.step_on.new.waiting c.step_on.new.words c.step_on.new.modules c.self.invariant c.step_on.result
     (rw (c.as_mut_slice.ensures.value, c.as_mut_slice-2.ensures.value, c.as_mut_slice-3.ensures.value) at c.step_on.ensures.answer)
     (rw (c.as_mut_slice.ensures.value, c.as_mut_slice-2.ensures.value, c.as_mut_slice-3.ensures.value, c.as_mut_slice-4.ensures.value) at c.step_on.ensures.ok)
     (rw (c.as_mut_slice.ensures.value, c.as_mut_slice-2.ensures.value, c.as_mut_slice-3.ensures.value, c.as_mut_slice-4.ensures.value) at c.step_on.ensures.err)
@@ -30,20 +30,9 @@ invariant_of-self c =
     )
     (core c)
 
-pub returns-clause-safe : goal.returns-clause-safe
-unfolding before
-returns-clause-safe c =
-    rw (
-      written c.self.inside.hands.len c.step_on.new.hands c.self.inside.hands.items (omega arith),
-      written c.self.inside.places.len c.step_on.new.places c.self.inside.places.items (omega arith),
-      written c.self.inside.waiting.len c.step_on.new.waiting c.self.inside.waiting.items (omega arith),
-      written c.self.inside.words.len c.step_on.new.words c.self.inside.words.items (omega arith),
-    )
-    (core c).safe
-
 pub returns-clause-row : goal.returns-clause-row
 unfolding before
-returns-clause-row c =
+returns-clause-row c = λ reads.
     rw (
       ← c.self.view_is,
       written c.self.inside.hands.len c.step_on.new.hands c.self.inside.hands.items (omega arith),
@@ -51,14 +40,14 @@ returns-clause-row c =
       written c.self.inside.waiting.len c.step_on.new.waiting c.self.inside.waiting.items (omega arith),
       written c.self.inside.words.len c.step_on.new.words c.self.inside.words.items (omega arith),
     )
-    (row_after (before c) c.args.cpu c.step_on.new.hands c.step_on.new.places c.step_on.new.waiting c.step_on.new.words c.self.invariant c.step_on.result
+    (row_after (before c) c.args.cpu c.step_on.new.hands c.step_on.new.places c.step_on.new.waiting c.step_on.new.words c.step_on.new.modules c.self.invariant reads c.step_on.result
     (rw (c.as_mut_slice.ensures.value, c.as_mut_slice-2.ensures.value, c.as_mut_slice-3.ensures.value) at c.step_on.ensures.answer)
     (rw (c.as_mut_slice.ensures.value, c.as_mut_slice-2.ensures.value, c.as_mut_slice-3.ensures.value, c.as_mut_slice-4.ensures.value) at c.step_on.ensures.ok))
 
 pub step_on-requires : goal.step_on-requires
 step_on-requires c =
     rw (c.as_mut_slice.ensures.value, c.as_mut_slice-2.ensures.value, c.as_mut_slice-3.ensures.value, c.as_mut_slice-4.ensures.value)
-    (can_go (record { shape = c.self.inside.shape; kernel_len = c.self.inside.kernel_len; machine = machine_of c.self.inside.hands.items c.self.inside.places.items c.self.inside.waiting.items; words = c.self.inside.words.items }) c.args.cpu c.self.invariant)
+    (can_go (record { shape = c.self.inside.shape; sections = c.self.inside.sections; machine = machine_of c.self.inside.hands.items c.self.inside.places.items c.self.inside.waiting.items; words = c.self.inside.words.items; modules = c.self.inside.modules }) c.args.cpu c.self.invariant)
 
 pub returns-clause-moved : goal.returns-clause-moved
 unfolding before
@@ -70,7 +59,7 @@ returns-clause-moved c = λ moves.
       written c.self.inside.waiting.len c.step_on.new.waiting c.self.inside.waiting.items (omega arith),
       written c.self.inside.words.len c.step_on.new.words c.self.inside.words.items (omega arith),
     )
-    (moved_lists (before c) c.args.cpu c.step_on.new.hands c.step_on.new.places c.step_on.new.waiting c.step_on.new.words c.step_on.result moves c.self.invariant
+    (moved_lists (before c) c.args.cpu (machine_of c.step_on.new.hands c.step_on.new.places c.step_on.new.waiting) c.step_on.new.words c.step_on.new.modules c.step_on.result moves c.self.invariant
     (rw (c.as_mut_slice.ensures.value, c.as_mut_slice-2.ensures.value, c.as_mut_slice-3.ensures.value) at c.step_on.ensures.answer)
     (rw (c.as_mut_slice.ensures.value, c.as_mut_slice-2.ensures.value, c.as_mut_slice-3.ensures.value, c.as_mut_slice-4.ensures.value) at c.step_on.ensures.ok))
 
@@ -81,6 +70,6 @@ returns-clause-left c =
       ← c.self.view_is,
       written c.self.inside.waiting.len c.step_on.new.waiting c.self.inside.waiting.items (omega arith),
     )
-    (left_lists (before c) c.args.cpu (machine_of c.step_on.new.hands c.step_on.new.places c.step_on.new.waiting) c.step_on.new.words c.step_on.result c.self.invariant
+    (left_lists (before c) c.args.cpu (machine_of c.step_on.new.hands c.step_on.new.places c.step_on.new.waiting) c.step_on.new.words c.step_on.new.modules c.step_on.result c.self.invariant
     (rw (c.as_mut_slice.ensures.value, c.as_mut_slice-2.ensures.value, c.as_mut_slice-3.ensures.value) at c.step_on.ensures.answer)
     (rw (c.as_mut_slice.ensures.value, c.as_mut_slice-2.ensures.value, c.as_mut_slice-3.ensures.value, c.as_mut_slice-4.ensures.value) at c.step_on.ensures.ok))

@@ -8,5 +8,5 @@ returns-clause-left c =
     (let told = rw c.as_slice.ensures.value at c.is_idle.ensures in
     let m = machine_of c.self.inside.hands.items c.self.inside.places.items c.self.inside.waiting.items in (
       λ yes. left_zero (waiting_at m c.args.cpu) (told.0 yes),
-      λ none. told.1 (left_none (record { shape = c.self.inside.shape; kernel_len = c.self.inside.kernel_len; machine = machine_of c.self.inside.hands.items c.self.inside.places.items c.self.inside.waiting.items; words = c.self.inside.words.items }) c.args.cpu c.self.invariant none),
+      λ none. told.1 (left_none (record { shape = c.self.inside.shape; sections = c.self.inside.sections; machine = machine_of c.self.inside.hands.items c.self.inside.places.items c.self.inside.waiting.items; words = c.self.inside.words.items; modules = c.self.inside.modules }) c.args.cpu c.self.invariant none),
     ))

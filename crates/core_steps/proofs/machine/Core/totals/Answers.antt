@@ -8,9 +8,9 @@ use Rattle.core_steps.proofs.machine.Core.totals.Goals as goal
 pub returns-clause-counted_bytes : goal.returns-clause-counted_bytes
 returns-clause-counted_bytes c =
     rw (← c.self.view_is) (c.total.ensures ∙ ap (λ words. total_of words Bytes c.args.tag) c.as_slice-words.ensures.value
-    ∙ totals_counted (record { shape = c.self.inside.shape; kernel_len = c.self.inside.kernel_len; machine = machine_of c.self.inside.hands.items c.self.inside.places.items c.self.inside.waiting.items; words = c.self.inside.words.items }) c.self.invariant Bytes c.args.tag)
+    ∙ totals_counted (record { shape = c.self.inside.shape; sections = c.self.inside.sections; machine = machine_of c.self.inside.hands.items c.self.inside.places.items c.self.inside.waiting.items; words = c.self.inside.words.items; modules = c.self.inside.modules }) c.self.invariant Bytes c.args.tag)
 
 pub returns-clause-counted_calls : goal.returns-clause-counted_calls
 returns-clause-counted_calls c =
     rw (← c.self.view_is) (c.total-2.ensures ∙ ap (λ words. total_of words Calls c.args.tag) c.as_slice-words.ensures.value
-    ∙ totals_counted (record { shape = c.self.inside.shape; kernel_len = c.self.inside.kernel_len; machine = machine_of c.self.inside.hands.items c.self.inside.places.items c.self.inside.waiting.items; words = c.self.inside.words.items }) c.self.invariant Calls c.args.tag)
+    ∙ totals_counted (record { shape = c.self.inside.shape; sections = c.self.inside.sections; machine = machine_of c.self.inside.hands.items c.self.inside.places.items c.self.inside.waiting.items; words = c.self.inside.words.items; modules = c.self.inside.modules }) c.self.invariant Calls c.args.tag)
