@@ -1,8 +1,9 @@
 -- A CPU that goes into a module and out of it: what its runs and the users of modules are, and that each is a step of the step rules.
-use Rattle.std.proofs.Common.{◌≡◌, ◌≢◌, ℕ, zero, suc, ◌+◌, ◌<◌, ◌≤◌, ◌==◌, ◌&&◌, List, [], ◌∷◌, ◌++◌, length, get_or, set, map, sum_by, count_by, Contains, AllPairs, IsSomeAnd, if◌then◌else◌, inl, inr, refl, sym, ap, ◌∙◌, subst, arith, zero-add, add-zero, Bool, true, false, not, Option, Some, None, eq-eqb, eqb-true, ne_eqb}
+use Rattle.std.proofs.Common.{◌≡◌, ◌≢◌, ℕ, zero, suc, ◌+◌, ◌<◌, ◌≤◌, ◌==◌, ◌&&◌, ◌^◌, ◌⊎◌, nat_lt, List, [], ◌∷◌, ◌++◌, length, get_or, set, map, sum_by, count_by, Contains, AllPairs, IsSomeAnd, if◌then◌else◌, cond, inl, inr, refl, sym, ap, ◌∙◌, subst, arith, zero-add, add-zero, Bool, true, false, not, Option, Some, None, eq-eqb, eqb-true, ne_eqb, lt-ltb}
 use Rattle.std.specs.List.{list_any}
-use Rattle.std.proofs.lemmas.Bool.{and_from, false≢true, cond-true, cond-false, cases_lt}
-use Rattle.std.proofs.lemmas.List.{get_or-set_same, get_or-set_other}
+use Rattle.std.proofs.lemmas.Bool.{and_from, false≢true, cond-true, cond-false, cases_eq, cases_lt}
+use Rattle.std.proofs.lemmas.List.{length-set, get_or-set_same, get_or-set_other}
+use Rattle.std.proofs.lemmas.List.Elements.{All-contains, All-map, All-weaker}
 use Rattle.std.proofs.lemmas.List.Sums.{sum_by-cons}
 use Rattle.std.proofs.lemmas.Option.{none-some, same_Some}
 use Rattle.tag_model.specs.declared.shape.Shape.{Shape}
@@ -13,14 +14,16 @@ use Rattle.tag_model.specs.declared.state.Part.{Part}
 use Rattle.tag_model.specs.declared.state.Part.TheVariants.{Cpu, Place, Modules, NextId}
 use Rattle.tag_model.specs.declared.state.Record.{Record}
 use Rattle.tag_model.specs.declared.state.Run.{Run}
+use Rattle.tag_model.specs.declared.state.Tag.{Tag}
 use Rattle.tag_model.specs.Laws.{Safe, is_loaded_as}
-use Rattle.tag_model.specs.StepRules.{Becomes, GivesRun, Leaves, Steps, StepsWith, TakesRun, enters, gives, gives_run, leaves, takes, takes_run}
+use Rattle.tag_model.specs.StepRules.{Becomes, GivesRun, Leaves, Steps, StepsWith, TakesRun, enters, gives, gives_run, leaves, may_begin, takes, takes_run}
 use Rattle.tag_model.specs.Reference.{is_settled}
-use Rattle.tag_model.specs.WordState.{runs_with, users_of}
+use Rattle.tag_model.specs.WordState.{in_range, runs_with, users_of}
 use Rattle.tag_model.proofs.BookRows.{safe-reads}
 use Rattle.tag_model.proofs.Found.{found, found_any, any_at, count_at}
 use Rattle.tag_model.proofs.Ids.{field_here}
 use Rattle.tag_model.proofs.ListRows.{list_with_cpu}
+use Rattle.tag_model.proofs.Lists.{in_range_from}
 use Rattle.tag_model.proofs.Steps.{safe-steps_with}
 use Rattle.tag_model.proofs.Swept.{loaded_as_means, holds_first}
 use Rattle.tag_model.proofs.Told.{run_is_loaded, one_run_each, users_are_runs}
@@ -28,17 +31,19 @@ use Rattle.module_area.specs.declared.book.TheConstants.{USER_LIMIT}
 use Rattle.module_area.specs.declared.entry.Entry.{Entry}
 use Rattle.module_area.specs.declared.entry.State.{State}
 use Rattle.module_area.specs.declared.entry.State.TheVariants.{Loaded, Dead}
-use Rattle.module_area.specs.Area.{Area, IsBook}
-use Rattle.module_area.specs.Entries.{entry_of, is_loaded_at, is_loaded_as as is_loaded_section}
+use Rattle.module_area.specs.Area.{Area, IsBook, LiesIn}
+use Rattle.module_area.specs.Entries.{entered, entry_of, left as one_left, is_loaded_at, is_loaded_as as is_loaded_section}
 use Rattle.module_area.proofs.EntryLemmas.{find_some}
-use Rattle.core_list.specs.ListState.{ListState, is_dead, is_some_entry, entered_list, left_list, list_part, loaded_entry, record_of, records_of, run_of}
+use Rattle.core_list.specs.ListState.{ListState, IsList, is_dead, is_some_entry, entered_list, left_list, list_part, loaded_entry, record_of, records_of, run_of, with_changed}
 use Rattle.core_list.proofs.Changes.{row-enters, row-leaves}
+use Rattle.core_list.proofs.Kept.{list_entered, list_left}
 use Rattle.core_list.proofs.Split.{the_entry, book_apart, book_entry_at, records_at}
+use Rattle.tag_section.specs.Section.{Section}
 use Rattle.core_steps.specs.declared.op.StepRefused.TheVariants.{ListHeld, NotRunning, Inside, NotLoaded}
 use Rattle.core_steps.specs.declared.step.WordStep.TheVariants.{GoIn, GoOut}
-use Rattle.core_steps.specs.Machine.{Machine, hand_at, run_at, is_run, enter_refusal, leave_refusal}
-use Rattle.core_steps.specs.Modules.{ModuleTable, goes_in, goes_out, inside_at, modules_after, scene_at, with_inside}
-use Rattle.core_steps.specs.CoreState.{CoreState, IsCore, HasUser, HasUserLeft, ListFits, cpu_part, cpu_parts, place_parts, list_parts, runs_in, runs_of, state_of, state_with, state_after, word_state, words_at}
+use Rattle.core_steps.specs.Machine.{Machine, hand_at, run_at, is_outside, is_run, enter_refusal, kernel_tag, leave_refusal, module_tag, tag_in}
+use Rattle.core_steps.specs.Modules.{ModuleTable, goes_in, goes_out, inside_at, modules_after, scene_at, section_len, with_inside}
+use Rattle.core_steps.specs.CoreState.{AreModules, CoreState, EntryFits, IsCore, RunFits, HasUser, HasUserLeft, ListFits, cpu_part, cpu_parts, place_parts, list_parts, runs_in, runs_of, state_of, state_with, state_after, word_state, words_at}
 use Rattle.core_steps.proofs.Parts.{becomes_list, becomes_cpu_list, length-cpu_parts, get_or-cpu_parts, cpu_parts-runs, sum_both, sum_two}
 use Rattle.core_steps.proofs.InsideFacts.{put_in, taken_out, stands_at}
 
@@ -413,3 +418,129 @@ pub goes_out_safe : (s : CoreState) → IsCore s → (cpu : ℕ) → cpu < s.sha
     → (reads : ℕ) → Safe s.shape (state_of reads s.machine s.words (modules_after (GoOut section) s.modules cpu))
 goes_out_safe s core cpu below section within may_go free reads =
     safe-steps_with s.shape (state_after reads s) _ core.shape (goes_out_row s core cpu below section within may_go free reads) (safe_after s core reads)
+
+-- ---- the modules stay in their bounds
+
+-- a run on the loaded entry of a section stands at its section
+pub run_fits : (k : Shape) (sections : List Section) (ms : ModuleTable) → AreModules k sections ms → (section : ℕ) (e : Entry) → LoadedEntry section ms.list.area.entries e → RunFits k sections section (run_of e)
+run_fits k sections ms ok section e loaded =
+    let fits = All-contains (EntryFits sections) ms.list.area.entries e ok.entries loaded.there in
+    let lies = All-contains (λ x. LiesIn ms.list.area x.start x.length) ms.list.area.entries e ok.list.book.in_area loaded.there in
+    record {
+      some_id = All-contains (λ x. 0 < x.id) ms.list.area.entries e ok.list.book.above_zero loaded.there;
+      of_section = loaded.of_section;
+      all_tags = fits.all_tags ∙ ap (section_len sections) loaded.of_section;
+      in_shape = omega (arith, lies, ok.tags);
+    }
+
+-- an entry with other users fits as it did
+fits_changed : (sections : List Section) (id : ℕ) (change : Entry → Entry) → ((e : Entry) → EntryFits sections e → EntryFits sections (change e)) → (e : Entry) → EntryFits sections e → EntryFits sections (cond (e.id == id) (change e) e)
+fits_changed sections id change keeps e fits = go (e.id == id)
+  where
+    go : (b : Bool) → EntryFits sections (cond b (change e) e)
+    go true = keeps e fits
+    go false = fits
+
+-- one slot and the users of one entry change
+modules_with : (k : Shape) (sections : List Section) (ms : ModuleTable) → AreModules k sections ms → (cpu : ℕ) → cpu < k.cpus → (section : ℕ) → section < length sections → (o : Option Run) → ((r : Run) → o ≡ Some r → RunFits k sections section r)
+    → (id : ℕ) (change : Entry → Entry) → ((e : Entry) → EntryFits sections e → EntryFits sections (change e)) → IsList (with_changed id change ms.list)
+    → AreModules k sections (with_inside ms cpu section o (with_changed id change ms.list))
+modules_with k sections ms ok cpu below section within o fits id change keeps list_ok = record {
+  cpus = omega (arith, length-set ms.inside cpu (set (inside_at ms cpu) section o), ok.cpus);
+  slots = λ c h. elim (cases_eq c cpu) [
+    | inl same ↦ subst (λ (x : ℕ). length (inside_at new x) ≡ length sections) (sym same) (ap length here ∙ (length-set (inside_at ms cpu) section o ∙ ok.slots cpu below))
+    | inr apart ↦ ap length (inside_other ms cpu section o list c apart) ∙ ok.slots c h
+  ];
+  runs = λ c place r is. elim (cases_eq c cpu) [
+    | inl same ↦ own place r (sym (ap (λ (row : List (Option Run)). run_at row place) here) ∙ (ap (λ (x : ℕ). run_at (inside_at new x) place) (sym same) ∙ is))
+    | inr apart ↦ ok.runs c place r (sym (ap (λ (row : List (Option Run)). run_at row place) (inside_other ms cpu section o list c apart)) ∙ is)
+  ];
+  list = list_ok;
+  first = ok.first;
+  tags = ok.tags;
+  entries = All-map (EntryFits sections) (λ e. cond (e.id == id) (change e) e) ms.list.area.entries
+      (All-weaker (EntryFits sections) (λ e. EntryFits sections (cond (e.id == id) (change e) e)) (fits_changed sections id change keeps) ms.list.area.entries ok.entries);
+  ops = ok.ops;
+  goes_on = ok.goes_on;
+}
+  where
+    list : ListState
+    list = with_changed id change ms.list
+
+    new : ModuleTable
+    new = with_inside ms cpu section o list
+
+    here : inside_at (with_inside ms cpu section o (with_changed id change ms.list)) cpu ≡ set (inside_at ms cpu) section o
+    here = inside_here ms cpu section o (with_changed id change ms.list) (omega (arith, ok.cpus))
+
+    own : (place : ℕ) (r : Run) → run_at (set (inside_at ms cpu) section o) place ≡ Some r → RunFits k sections place r
+    own place r is = elim (cases_eq place section) [
+      | inl same ↦
+          let set_here : run_at (set (inside_at ms cpu) section o) section ≡ o = get_or-set_same (inside_at ms cpu) section o None (omega (arith, ok.slots cpu below)) in
+          subst (λ (x : ℕ). RunFits k sections x r) (sym same) (fits r (sym set_here ∙ (ap (run_at (set (inside_at ms cpu) section o)) (sym same) ∙ is)))
+      | inr apart ↦ ok.runs cpu place r (sym (get_or-set_other (inside_at ms cpu) section place o None apart) ∙ is)
+    ]
+
+pub goes_in_modules : (s : CoreState) → IsCore s → (cpu : ℕ) → cpu < s.shape.cpus → (section : ℕ) → section < length s.sections → enter_refusal (scene_at s.modules cpu) section ≡ None
+    → AreModules s.shape s.sections (modules_after (GoIn section) s.modules cpu)
+goes_in_modules s core cpu below section within free =
+    let ms = s.modules in
+    let may = may_enter ms cpu section free in
+    let loaded = loaded_is section ms.list may.entry core.modules.list.book may.is in
+    subst (λ (o : Option Entry). AreModules s.shape s.sections (goes_in ms cpu section o)) (sym may.is)
+    (modules_with s.shape s.sections ms core.modules cpu below section within (Some (run_of may.entry))
+    (λ r e. subst (λ (x : Run). RunFits s.shape s.sections section x) (same_Some (run_of may.entry) r e) (run_fits s.shape s.sections ms core.modules section may.entry loaded))
+    may.entry.id entered (λ e fits. record { of_module = fits.of_module; all_tags = fits.all_tags }) (list_entered ms.list may.entry.id core.modules.list))
+
+pub goes_out_modules : (s : CoreState) → IsCore s → (cpu : ℕ) → cpu < s.shape.cpus → (section : ℕ) → section < length s.sections → leave_refusal (scene_at s.modules cpu) section ≡ None
+    → AreModules s.shape s.sections (modules_after (GoOut section) s.modules cpu)
+goes_out_modules s core cpu below section within may_go =
+    let ms = s.modules in
+    let may = may_leave ms cpu section may_go in
+    subst (λ (o : Option Run). AreModules s.shape s.sections (goes_out ms cpu section o)) (sym may.is)
+    (modules_with s.shape s.sections ms core.modules cpu below section within None (λ r e. absurd (none-some r e)) may.run.id one_left (λ e fits. record { of_module = fits.of_module; all_tags = fits.all_tags })
+    (list_left ms.list may.run.id core.modules.list))
+
+-- ---- the tag of an allocation
+
+pub record IsInside (inside : List (Option Run)) (section : ℕ) : Type 0 where
+  pub run : Run
+  pub is : run_at inside section ≡ Some run
+
+-- the section is the kernel's, or the CPU is inside its module
+pub not_outside : (section : ℕ) (inside : List (Option Run)) → is_outside section inside ≡ false → (section ≡ 0) ⊎ ((section == 0) ≡ false) × IsInside inside section
+not_outside section inside e = at (section == 0) refl e
+  where
+    slot : (section == 0) ≡ false → (o : Option Run) → run_at inside section ≡ o → not (is_run o) ≡ false → (section ≡ 0) ⊎ ((section == 0) ≡ false) × IsInside inside section
+    slot other None is e = absurd (cc)
+    slot other (Some r) is e = inr (other, record { run = r; is = is })
+
+    at : (b : Bool) → (section == 0) ≡ b → (not b && not (is_run (run_at inside section))) ≡ false → (section ≡ 0) ⊎ ((section == 0) ≡ false) × IsInside inside section
+    at true kernel e = inl (eqb-true section 0 kernel)
+    at false other e = slot other (run_at inside section) refl e
+
+-- an allocation may begin under a tag of the kernel, or of the module that the CPU is inside; its number is one of the shape's
+pub begins_in : (s : CoreState) → IsCore s → (cpu : ℕ) → cpu < s.shape.cpus → (section index : ℕ) → index < section_len s.sections section → is_outside section (inside_at s.modules cpu) ≡ false
+    → (may_begin s.shape (tag_in (inside_at s.modules cpu) section index) (runs_of s.modules cpu) ≡ true) × ((tag_in (inside_at s.modules cpu) section index).number < s.shape.tags)
+begins_in s core cpu below section index has in_it = elim (not_outside section (inside_at s.modules cpu) in_it) [
+  | inl kernel ↦
+      let there : index < s.shape.kernel_tags = omega (arith, subst (λ (x : ℕ). index < section_len s.sections x) kernel has, core.sections.kernel_fits) in
+      let tag : tag_in (inside_at s.modules cpu) section index ≡ kernel_tag index = cond-true (section == 0) (kernel_tag index) (module_tag (run_at (inside_at s.modules cpu) section) index) (eq-eqb section 0 kernel) in
+      for_tag _ (sym tag) (lt-ltb index s.shape.kernel_tags there, omega (arith, core.shape.few_kernel_tags))
+  | inr inside ↦
+      let r = inside.1.run in
+      let fits = core.modules.runs cpu section r inside.1.is in
+      let at = taken_out (inside_at s.modules cpu) section r inside.1.is in
+      let tag : tag_in (inside_at s.modules cpu) section index ≡ module_tag (Some r) index =
+          cond-false (section == 0) (kernel_tag index) (module_tag (run_at (inside_at s.modules cpu) section) index) inside.0 ∙ ap (λ (o : Option Run). module_tag o index) inside.1.is in
+      let within : index < r.length = omega (arith, fits.all_tags) in
+      let test : Run → Bool = λ x. (x.id == r.id) && in_range x.start x.length (r.start + index) in
+      let passes : test r ≡ true = and_from _ _ (eq-eqb r.id r.id refl) (in_range_from r.start r.length (r.start + index) (omega arith) (omega arith)) in
+      let any : list_any test (runs_of s.modules cpu) ≡ true = subst (λ (rs : List Run). list_any test rs ≡ true) (sym at.all) (any_at test at.front r at.back passes) in
+      let begin : may_begin s.shape (module_tag (Some r) index) (runs_of s.modules cpu) ≡ true =
+          cond-false (r.id == 0) (nat_lt (r.start + index) s.shape.kernel_tags) (list_any test (runs_of s.modules cpu)) (ne_eqb r.id 0 (λ same. omega (arith, fits.some_id))) ∙ any in
+      for_tag _ (sym tag) (begin, omega (arith, fits.in_shape))
+]
+  where
+    for_tag : {tag : Tag} (other : Tag) → tag ≡ other → (may_begin s.shape tag (runs_of s.modules cpu) ≡ true) × (tag.number < s.shape.tags) → (may_begin s.shape other (runs_of s.modules cpu) ≡ true) × (other.number < s.shape.tags)
+    for_tag other same h = subst (λ (x : Tag). (may_begin s.shape x (runs_of s.modules cpu) ≡ true) × (x.number < s.shape.tags)) same h
