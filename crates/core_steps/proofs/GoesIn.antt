@@ -1,7 +1,7 @@
 -- A CPU that goes into a module and out of it: what its runs and the users of modules are, and that each is a step of the step rules.
 use Rattle.std.proofs.Common.{◌≡◌, ◌≢◌, ℕ, zero, suc, ◌+◌, ◌<◌, ◌≤◌, ◌==◌, ◌&&◌, ◌^◌, ◌⊎◌, nat_lt, List, [], ◌∷◌, ◌++◌, length, get_or, set, map, sum_by, count_by, Contains, AllPairs, IsSomeAnd, if◌then◌else◌, cond, inl, inr, refl, sym, ap, ◌∙◌, subst, arith, zero-add, add-zero, Bool, true, false, not, Option, Some, None, eq-eqb, eqb-true, ne_eqb, lt-ltb}
 use Rattle.std.specs.List.{list_any}
-use Rattle.std.proofs.lemmas.Bool.{and_from, false≢true, cond-true, cond-false, cases_eq, cases_lt}
+use Rattle.std.proofs.lemmas.Bool.{and_from, false≢true, cond-true, cond-false, cases_Bool, cases_eq, cases_lt}
 use Rattle.std.proofs.lemmas.List.{length-set, get_or-set_same, get_or-set_other}
 use Rattle.std.proofs.lemmas.List.Elements.{All-contains, All-map, All-weaker}
 use Rattle.std.proofs.lemmas.List.Sums.{sum_by-cons}
@@ -38,12 +38,15 @@ use Rattle.core_list.specs.ListState.{ListState, IsList, is_dead, is_some_entry,
 use Rattle.core_list.proofs.Changes.{row-enters, row-leaves}
 use Rattle.core_list.proofs.Kept.{list_entered, list_left}
 use Rattle.core_list.proofs.Split.{the_entry, book_apart, book_entry_at, records_at}
-use Rattle.tag_section.specs.Section.{Section}
+use Rattle.tag_section.specs.Section.{AreSections, Section, tag_limit}
+use Rattle.tag_section.specs.declared.sections.TheConstants.{KERNEL_TAG_LIMIT, MODULE_TAG_LIMIT}
+use Rattle.core_steps.specs.declared.op.Op.{Op}
+use Rattle.core_steps.specs.declared.op.Op.TheVariants.{Open, Close, Split, Swap, Trim, Enter, Leave, Load, Unload, Clean}
 use Rattle.core_steps.specs.declared.op.StepRefused.TheVariants.{ListHeld, NotRunning, Inside, NotLoaded}
 use Rattle.core_steps.specs.declared.step.WordStep.TheVariants.{GoIn, GoOut}
 use Rattle.core_steps.specs.Machine.{Machine, hand_at, run_at, is_outside, is_run, enter_refusal, kernel_tag, leave_refusal, module_tag, tag_in}
 use Rattle.core_steps.specs.Modules.{ModuleTable, goes_in, goes_out, inside_at, modules_after, scene_at, section_len, with_inside}
-use Rattle.core_steps.specs.CoreState.{AreModules, CoreState, EntryFits, IsCore, RunFits, HasUser, HasUserLeft, ListFits, cpu_part, cpu_parts, place_parts, list_parts, runs_in, runs_of, state_of, state_with, state_after, word_state, words_at}
+use Rattle.core_steps.specs.CoreState.{AreModules, CoreState, EntryFits, IsCore, IsOp, RunFits, TagFits, HasUser, HasUserLeft, ListFits, cpu_part, cpu_parts, place_parts, list_parts, runs_in, runs_of, state_of, state_with, state_after, word_state, words_at}
 use Rattle.core_steps.proofs.Parts.{becomes_list, becomes_cpu_list, length-cpu_parts, get_or-cpu_parts, cpu_parts-runs, sum_both, sum_two}
 use Rattle.core_steps.proofs.InsideFacts.{put_in, taken_out, stands_at}
 
@@ -544,3 +547,43 @@ begins_in s core cpu below section index has in_it = elim (not_outside section (
   where
     for_tag : {tag : Tag} (other : Tag) → tag ≡ other → (may_begin s.shape tag (runs_of s.modules cpu) ≡ true) × (tag.number < s.shape.tags) → (may_begin s.shape other (runs_of s.modules cpu) ≡ true) × (other.number < s.shape.tags)
     for_tag other same h = subst (λ (x : Tag). (may_begin s.shape x (runs_of s.modules cpu) ≡ true) × (x.number < s.shape.tags)) same h
+
+-- the number of a tag where the CPU is outside is its index
+outside_tag : (section : ℕ) (inside : List (Option Run)) (index : ℕ) → is_outside section inside ≡ true → tag_in inside section index ≡ kernel_tag index
+outside_tag section inside index e = at (section == 0) (run_at inside section) e
+  where
+    at : (b : Bool) (o : Option Run) → (not b && not (is_run o)) ≡ true → (if b then kernel_tag index else module_tag o index) ≡ kernel_tag index
+    at true o e = refl
+    at false None e = refl
+    at false (Some r) e = absurd (false≢true e)
+
+-- a tag's number is a 32-bit number, where the CPU isn't outside
+pub number_inside : (s : CoreState) → IsCore s → (cpu : ℕ) → cpu < s.shape.cpus → (section index : ℕ) → index < section_len s.sections section → is_outside section (inside_at s.modules cpu) ≡ false
+    → (tag_in (inside_at s.modules cpu) section index).number < 2 ^ 32
+number_inside s core cpu below section index has in_it = omega (arith, (begins_in s core cpu below section index has in_it).1, core.shape.few_tags)
+
+-- and anywhere, where the section's tags are in their limits
+tag_limit_small : (section : ℕ) → tag_limit section < 2 ^ 32
+tag_limit_small section = go (section == 0)
+  where
+    go : (b : Bool) → (if b then KERNEL_TAG_LIMIT else MODULE_TAG_LIMIT) < 2 ^ 32
+    go true = omega arith
+    go false = omega arith
+
+tag_number : (s : CoreState) → IsCore s → (cpu : ℕ) → cpu < s.shape.cpus → AreSections s.sections → (section index : ℕ) → section < length s.sections → index < section_len s.sections section → (tag_in (inside_at s.modules cpu) section index).number < 2 ^ 32
+tag_number s core cpu below sections section index within has = elim (cases_Bool (is_outside section (inside_at s.modules cpu))) [
+  | inl out ↦ subst (λ (x : Tag). x.number < 2 ^ 32) (sym (outside_tag section (inside_at s.modules cpu) index out)) (omega (arith, sections.within_limits section within, tag_limit_small section))
+  | inr in_it ↦ number_inside s core cpu below section index has in_it
+]
+
+pub tag_fits : (s : CoreState) → IsCore s → (cpu : ℕ) → cpu < s.shape.cpus → AreSections s.sections → (op : Op) → IsOp s.sections op → TagFits op (inside_at s.modules cpu)
+tag_fits s core cpu below sections (Open key section index size) ok = tag_number s core cpu below sections section index ok.has_section ok.in_section
+tag_fits s core cpu below sections (Close key) ok = tt
+tag_fits s core cpu below sections (Split key parts first) ok = tt
+tag_fits s core cpu below sections (Swap one two) ok = tt
+tag_fits s core cpu below sections (Trim key bytes) ok = tt
+tag_fits s core cpu below sections (Enter section) ok = tt
+tag_fits s core cpu below sections (Leave section) ok = tt
+tag_fits s core cpu below sections (Load section) ok = tt
+tag_fits s core cpu below sections (Unload section) ok = tt
+tag_fits s core cpu below sections Clean ok = tt
