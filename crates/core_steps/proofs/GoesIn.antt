@@ -131,7 +131,7 @@ run_entry s core cpu below section r is =
     let f = found_any (is_loaded_as r) (records_of list) loaded in
     let test : Record → Bool = λ x. (x.id == r.id) && is_loaded_as r x in
     let there : list_any test (records_of list) ≡ true =
-        subst (λ (rs : List Record). list_any test rs ≡ true) (sym f.is) (any_at test f.front f.item f.back (and_from _ _ (eq-eqb f.item.id r.id (loaded_as_means r f.item f.passes).id) f.passes)) in
+    subst (λ (rs : List Record). list_any test rs ≡ true) (sym f.is) (any_at test f.front f.item f.back (and_from _ _ (eq-eqb f.item.id r.id (loaded_as_means r f.item f.passes).id) f.passes)) in
     let one = the_entry list.area r.id (is_loaded_as r) core.modules.list.book there in
     let like = loaded_as_means r (record_of one.entry) one.passes in
     record { entry = one.entry; is = one.is; loaded = not_dead one.entry.state like.loaded; run = same_fields r one.entry.id one.entry.section one.entry.start one.entry.length like.id like.section like.start like.length }
@@ -257,7 +257,7 @@ run_has_user s core cpu below section r is =
     let own = run_entry s core cpu below section r is in
     let at = taken_out (inside_at s.modules cpu) section r is in
     let here : 0 < count_by (λ (x : Run). x.id == r.id) (runs_of s.modules cpu) =
-        subst (λ (rs : List Run). 0 < count_by (λ (x : Run). x.id == r.id) rs) (sym at.all) (count_at (λ (x : Run). x.id == r.id) at.front r at.back (eq-eqb r.id r.id refl)) in
+    subst (λ (rs : List Run). 0 < count_by (λ (x : Run). x.id == r.id) rs) (sym at.all) (count_at (λ (x : Run). x.id == r.id) at.front r at.back (eq-eqb r.id r.id refl)) in
     let c = own_part s.machine s.words cpu (runs_of s.modules cpu) in
     let held = holds_first (Cpu c) _ _ (word_state s) (word_state s) (of_cpu s core cpu below) (runs_with (λ x. x.id == r.id)) in
     let all = runs_of_cpus (λ x. x.id == r.id) s.machine s.words (runs_of s.modules) s.modules.list in
@@ -314,8 +314,7 @@ may_leave ms cpu section none = free ms.manager.under_way none
 -- the list can count the CPU that goes in, or out
 pub in_fits : (s : CoreState) → IsCore s → (cpu : ℕ) → cpu < s.shape.cpus → (section : ℕ) → section < length s.sections → enter_refusal (scene_at s.modules cpu) section ≡ None → ListFits (GoIn section) s.modules cpu
 in_fits s core cpu below section within none =
-    let may = may_enter s.modules cpu section none in
-    (
+    let may = may_enter s.modules cpu section none in (
       omega (arith, core.modules.cpus),
       omega (arith, core.modules.slots cpu below),
       subst (λ (o : Option Entry). HasUserLeft s.modules.list o) (sym may.is) (user_left s core cpu below section may.entry may.is may.outside),
@@ -399,7 +398,7 @@ out_by s core cpu below section within r is free reads =
       list = refl;
     } in
     let leave : Leaves (list_part reads (r ∷ []) ms.list) (list_part reads [] list) =
-        subst (λ (x : Run). Leaves (list_part reads (x ∷ []) ms.list) (list_part reads [] list)) own.run (row-leaves ms.list reads r.id own.entry [] core.modules.list own.is) in
+    subst (λ (x : Run). Leaves (list_part reads (x ∷ []) ms.list) (list_part reads [] list)) own.run (row-leaves ms.list reads r.id own.entry [] core.modules.list own.is) in
     let last : Steps s.shape (state_with reads (r ∷ []) m s.words (runs_of new) ms.list) (state_of reads m s.words new) = record {
       v = Modules (list_part reads (r ∷ []) ms.list) ∷ [];
       w = Modules (list_part reads [] list) ∷ [];
@@ -535,13 +534,13 @@ begins_in s core cpu below section index has in_it = elim (not_outside section (
       let fits = core.modules.runs cpu section r inside.1.is in
       let at = taken_out (inside_at s.modules cpu) section r inside.1.is in
       let tag : tag_in (inside_at s.modules cpu) section index ≡ module_tag (Some r) index =
-          cond-false (section == 0) (kernel_tag index) (module_tag (run_at (inside_at s.modules cpu) section) index) inside.0 ∙ ap (λ (o : Option Run). module_tag o index) inside.1.is in
+      cond-false (section == 0) (kernel_tag index) (module_tag (run_at (inside_at s.modules cpu) section) index) inside.0 ∙ ap (λ (o : Option Run). module_tag o index) inside.1.is in
       let within : index < r.length = omega (arith, fits.all_tags) in
       let test : Run → Bool = λ x. (x.id == r.id) && in_range x.start x.length (r.start + index) in
       let passes : test r ≡ true = and_from _ _ (eq-eqb r.id r.id refl) (in_range_from r.start r.length (r.start + index) (omega arith) (omega arith)) in
       let any : list_any test (runs_of s.modules cpu) ≡ true = subst (λ (rs : List Run). list_any test rs ≡ true) (sym at.all) (any_at test at.front r at.back passes) in
       let begin : may_begin s.shape (module_tag (Some r) index) (runs_of s.modules cpu) ≡ true =
-          cond-false (r.id == 0) (nat_lt (r.start + index) s.shape.kernel_tags) (list_any test (runs_of s.modules cpu)) (ne_eqb r.id 0 (λ same. omega (arith, fits.some_id))) ∙ any in
+      cond-false (r.id == 0) (nat_lt (r.start + index) s.shape.kernel_tags) (list_any test (runs_of s.modules cpu)) (ne_eqb r.id 0 (λ same. omega (arith, fits.some_id))) ∙ any in
       for_tag _ (sym tag) (begin, omega (arith, fits.in_shape))
 ]
   where
