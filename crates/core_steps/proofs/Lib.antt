@@ -16,4 +16,6 @@ pub mod Steps
 pub mod Quiet
 pub mod SplitRun
 pub mod InsideFacts
+pub mod RunsTold
 pub mod GoesIn
+pub mod InsideTags
