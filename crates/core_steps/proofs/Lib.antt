@@ -24,3 +24,5 @@ pub mod Found
 pub mod ManagerRow
 pub mod ManagerCore
 pub mod ManagerLeft
+pub mod RunsTold
+pub mod InsideTags

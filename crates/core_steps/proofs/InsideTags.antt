@@ -1,0 +1,113 @@
+-- The tag of an allocation of a CPU that is inside a module.
+use Rattle.std.proofs.Common.{◌≡◌, ℕ, ◌+◌, ◌<◌, ◌==◌, ◌&&◌, ◌^◌, ◌⊎◌, nat_lt, List, length, if◌then◌else◌, inl, inr, refl, sym, ap, ◌∙◌, subst, arith, Bool, true, false, not, Option, Some, None, eq-eqb, eqb-true, ne_eqb, lt-ltb}
+use Rattle.std.specs.List.{list_any}
+use Rattle.std.proofs.lemmas.Bool.{and_from, false≢true, cond-true, cond-false, cases_Bool}
+use Rattle.tag_model.specs.declared.state.Held.{Held}
+use Rattle.tag_model.specs.declared.state.Run.{Run}
+use Rattle.tag_model.specs.declared.state.Tag.{Tag}
+use Rattle.tag_model.specs.StepRules.{may_begin}
+use Rattle.tag_model.specs.WordState.{in_range}
+use Rattle.tag_model.proofs.Found.{any_at}
+use Rattle.tag_model.proofs.Lists.{in_range_from}
+use Rattle.tag_section.specs.Section.{AreSections, tag_limit}
+use Rattle.tag_section.specs.declared.sections.TheConstants.{KERNEL_TAG_LIMIT, MODULE_TAG_LIMIT}
+use Rattle.core_steps.specs.declared.op.Op.{Op}
+use Rattle.core_steps.specs.declared.op.Op.TheVariants.{Open, Close, Split, Swap, Trim, Enter, Leave, Load, Unload, Clean}
+use Rattle.core_steps.specs.declared.op.StepRefused.TheVariants.{KeyUsed, NotRunning}
+use Rattle.core_steps.specs.Machine.{Waiting, is_used, open_refusal, run_at, is_outside, is_run, kernel_tag, module_tag, tag_in}
+use Rattle.core_steps.specs.Modules.{inside_at, section_len}
+use Rattle.core_steps.specs.CoreState.{CoreState, IsCore, IsOp, TagFits, runs_of}
+use Rattle.core_steps.proofs.InsideFacts.{taken_out}
+
+-- ---- the tag of an allocation
+
+pub record IsInside (inside : List (Option Run)) (section : ℕ) : Type 0 where
+  pub run : Run
+  pub is : run_at inside section ≡ Some run
+
+-- the section is the kernel's, or the CPU is inside its module
+pub not_outside : (section : ℕ) (inside : List (Option Run)) → is_outside section inside ≡ false → (section ≡ 0) ⊎ ((section == 0) ≡ false) × IsInside inside section
+not_outside section inside e = at (section == 0) refl e
+  where
+    slot : (section == 0) ≡ false → (o : Option Run) → run_at inside section ≡ o → not (is_run o) ≡ false → (section ≡ 0) ⊎ ((section == 0) ≡ false) × IsInside inside section
+    slot other None is e = absurd (cc)
+    slot other (Some r) is e = inr (other, record { run = r; is = is })
+
+    at : (b : Bool) → (section == 0) ≡ b → (not b && not (is_run (run_at inside section))) ≡ false → (section ≡ 0) ⊎ ((section == 0) ≡ false) × IsInside inside section
+    at true kernel e = inl (eqb-true section 0 kernel)
+    at false other e = slot other (run_at inside section) refl e
+
+-- an allocation that isn't refused is of the kernel's section, or of one whose module the CPU is inside
+pub open_not_outside : (places : List Held) (waiting : List Waiting) (inside : List (Option Run)) (key section : ℕ) → open_refusal places waiting inside key section ≡ None → is_outside section inside ≡ false
+open_not_outside places waiting inside key section none = go (is_used places waiting key) (is_outside section inside) none
+  where
+    go : (used out : Bool) → (if used then Some (KeyUsed key) else (if out then Some (NotRunning section) else None)) ≡ None → out ≡ false
+    go true out none = absurd (cc)
+    go false true none = absurd (cc)
+    go false false none = refl
+
+-- an allocation may begin under a tag of the kernel, or of the module that the CPU is inside; its number is one of the shape's
+pub begins_in : (s : CoreState) → IsCore s → (cpu : ℕ) → cpu < s.shape.cpus → (section index : ℕ) → index < section_len s.sections section → is_outside section (inside_at s.modules cpu) ≡ false
+    → (may_begin s.shape (tag_in (inside_at s.modules cpu) section index) (runs_of s.modules cpu) ≡ true) × ((tag_in (inside_at s.modules cpu) section index).number < s.shape.tags)
+begins_in s core cpu below section index has in_it = elim (not_outside section (inside_at s.modules cpu) in_it) [
+  | inl kernel ↦
+      let there : index < s.shape.kernel_tags = omega (arith, subst (λ (x : ℕ). index < section_len s.sections x) kernel has, core.sections.kernel_fits) in
+      let tag : tag_in (inside_at s.modules cpu) section index ≡ kernel_tag index = cond-true (section == 0) (kernel_tag index) (module_tag (run_at (inside_at s.modules cpu) section) index) (eq-eqb section 0 kernel) in
+      for_tag _ (sym tag) (lt-ltb index s.shape.kernel_tags there, omega (arith, core.shape.few_kernel_tags))
+  | inr inside ↦
+      let r = inside.1.run in
+      let fits = core.modules.runs cpu section r inside.1.is in
+      let at = taken_out (inside_at s.modules cpu) section r inside.1.is in
+      let tag : tag_in (inside_at s.modules cpu) section index ≡ module_tag (Some r) index =
+      cond-false (section == 0) (kernel_tag index) (module_tag (run_at (inside_at s.modules cpu) section) index) inside.0 ∙ ap (λ (o : Option Run). module_tag o index) inside.1.is in
+      let within : index < r.length = omega (arith, fits.all_tags) in
+      let test : Run → Bool = λ x. (x.id == r.id) && in_range x.start x.length (r.start + index) in
+      let passes : test r ≡ true = and_from _ _ (eq-eqb r.id r.id refl) (in_range_from r.start r.length (r.start + index) (omega arith) (omega arith)) in
+      let any : list_any test (runs_of s.modules cpu) ≡ true = subst (λ (rs : List Run). list_any test rs ≡ true) (sym at.all) (any_at test at.front r at.back passes) in
+      let begin : may_begin s.shape (module_tag (Some r) index) (runs_of s.modules cpu) ≡ true =
+      cond-false (r.id == 0) (nat_lt (r.start + index) s.shape.kernel_tags) (list_any test (runs_of s.modules cpu)) (ne_eqb r.id 0 (λ same. omega (arith, fits.some_id))) ∙ any in
+      for_tag _ (sym tag) (begin, omega (arith, fits.in_shape))
+]
+  where
+    for_tag : {tag : Tag} (other : Tag) → tag ≡ other → (may_begin s.shape tag (runs_of s.modules cpu) ≡ true) × (tag.number < s.shape.tags) → (may_begin s.shape other (runs_of s.modules cpu) ≡ true) × (other.number < s.shape.tags)
+    for_tag other same h = subst (λ (x : Tag). (may_begin s.shape x (runs_of s.modules cpu) ≡ true) × (x.number < s.shape.tags)) same h
+
+-- the number of a tag where the CPU is outside is its index
+outside_tag : (section : ℕ) (inside : List (Option Run)) (index : ℕ) → is_outside section inside ≡ true → tag_in inside section index ≡ kernel_tag index
+outside_tag section inside index e = at (section == 0) (run_at inside section) e
+  where
+    at : (b : Bool) (o : Option Run) → (not b && not (is_run o)) ≡ true → (if b then kernel_tag index else module_tag o index) ≡ kernel_tag index
+    at true o e = refl
+    at false None e = refl
+    at false (Some r) e = absurd (false≢true e)
+
+-- a tag's number is a 32-bit number, where the CPU isn't outside
+pub number_inside : (s : CoreState) → IsCore s → (cpu : ℕ) → cpu < s.shape.cpus → (section index : ℕ) → index < section_len s.sections section → is_outside section (inside_at s.modules cpu) ≡ false
+    → (tag_in (inside_at s.modules cpu) section index).number < 2 ^ 32
+number_inside s core cpu below section index has in_it = omega (arith, (begins_in s core cpu below section index has in_it).1, core.shape.few_tags)
+
+-- and anywhere, where the section's tags are in their limits
+tag_limit_small : (section : ℕ) → tag_limit section < 2 ^ 32
+tag_limit_small section = go (section == 0)
+  where
+    go : (b : Bool) → (if b then KERNEL_TAG_LIMIT else MODULE_TAG_LIMIT) < 2 ^ 32
+    go true = omega arith
+    go false = omega arith
+
+tag_number : (s : CoreState) → IsCore s → (cpu : ℕ) → cpu < s.shape.cpus → AreSections s.sections → (section index : ℕ) → section < length s.sections → index < section_len s.sections section → (tag_in (inside_at s.modules cpu) section index).number < 2 ^ 32
+tag_number s core cpu below sections section index within has = elim (cases_Bool (is_outside section (inside_at s.modules cpu))) [
+  | inl out ↦ subst (λ (x : Tag). x.number < 2 ^ 32) (sym (outside_tag section (inside_at s.modules cpu) index out)) (omega (arith, sections.within_limits section within, tag_limit_small section))
+  | inr in_it ↦ number_inside s core cpu below section index has in_it
+]
+
+pub tag_fits : (s : CoreState) → IsCore s → (cpu : ℕ) → cpu < s.shape.cpus → AreSections s.sections → (op : Op) → IsOp s.sections op → TagFits op (inside_at s.modules cpu)
+tag_fits s core cpu below sections (Open key section index size) ok = tag_number s core cpu below sections section index ok.has_section ok.in_section
+tag_fits s core cpu below sections (Close key) ok = tt
+tag_fits s core cpu below sections (Split key parts first) ok = tt
+tag_fits s core cpu below sections (Swap one two) ok = tt
+tag_fits s core cpu below sections (Trim key bytes) ok = tt
+tag_fits s core cpu below sections (Enter section) ok = tt
+tag_fits s core cpu below sections (Leave section) ok = tt
+tag_fits s core cpu below sections (Load section) ok = tt
+tag_fits s core cpu below sections (Unload section) ok = tt
+tag_fits s core cpu below sections Clean ok = tt
