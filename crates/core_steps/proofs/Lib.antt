@@ -16,3 +16,4 @@ pub mod Steps
 pub mod Quiet
 pub mod SplitRun
 pub mod Loaded
+pub mod Sweeping
