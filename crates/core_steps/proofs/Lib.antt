@@ -26,3 +26,4 @@ pub mod ManagerCore
 pub mod ManagerLeft
 pub mod RunsTold
 pub mod InsideTags
+pub mod Sweeping

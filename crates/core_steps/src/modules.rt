@@ -1,17 +1,14 @@
 //! The modules of the machine: who is inside which, the module list, and what the manager does.
 
-ghost use Rattle.std.specs.Prelude.{ℕ, ◌≡◌, ◌+◌, ◌*◌, ◌∷◌, List, ◌<◌, ◌≤◌, ◌↔◌, [], IsTrue, length, replicate, map, IfOk, OnOk, OnErr, MatchOption, Option, Some, None};
+ghost use Rattle.std.specs.Prelude.{ℕ, ◌≡◌, ◌+◌, ◌*◌, ◌∷◌, List, ◌<◌, ◌≤◌, ◌↔◌, [], IsTrue, length, replicate, IfOk, OnOk, OnErr, MatchOption, false};
 ghost use Rattle.tag_model.specs.Shape.{IsChecked};
-ghost use Rattle.tag_model.specs.Laws.{sweep_fits};
 ghost use Rattle.tag_section.specs.Section.{Section};
-ghost use Rattle.module_area.specs.declared.book.TheConstants.{TAG_LIMIT};
 ghost use Rattle.module_area.specs.Entries.{entry_of};
-ghost use Rattle.core_list.specs.ListState.{IsList, records_of, loaded_entry, run_of, section_in, start_in};
+ghost use Rattle.core_list.specs.ListState.{IsList, loaded_entry, load_refusal, loaded, swept_list, next_of, run_of, section_in, start_in};
 ghost use Rattle.core_steps.specs.declared.op.TheConstants.{MAX_QUEUED};
 ghost use Rattle.core_steps.specs.declared.op.Op.{Op};
-ghost use Rattle.core_steps.specs.Machine.{run_at};
-ghost use Rattle.core_steps.specs.Modules.{ModuleTable, inside_at, scene_at, modules_after, manager_refusal, managed, manager_event, section_len, word_read, load_refused, cause_of, kept_by};
-ghost use Rattle.core_steps.specs.CoreState.{ListFits, CanManage, fresh_modules, with_managed, words_at};
+ghost use Rattle.core_steps.specs.Modules.{inside_at, modules_after, manager_refusal, manager_first, unload_refused, begins_op, unloads, swept_on, sweep_goes, event_of_sweep, managed, manager_event, section_len, word_read, load_refused, cause_of, kept_by};
+ghost use Rattle.core_steps.specs.CoreState.{ListFits, CanManage, IsManagerOp, fresh_modules, with_managed, words_at};
 
 use crate::inside::Inside;
 use crate::managing::Managing;
@@ -174,7 +171,8 @@ impl ModuleTable {
 
     /// The entry of the section's loaded module.
     pub fn loaded(&self, section: u32) -> Option<Entry>
-        ensures { result ≡ loaded_entry section self.now.list }
+        ensures value { result ≡ loaded_entry section self.now.list }
+        ensures holds { IsList self.now.list }
     {
         let book = self.list.book();
         match book.loaded(section) {
@@ -226,21 +224,39 @@ impl ModuleTable {
     }
 
     /// The first step of an op.
-    fn begin(&mut self, op: Op, sections: &Sections) -> Result<(), StepRefused> {
+    fn begin(&mut self, op: Op, sections: &Sections) -> Result<(), StepRefused>
+        requires op { IsManagerOp sections.now op }
+        requires some_tag { (section : ℕ) → section < length sections.now → 1 ≤ section_len sections.now section }
+        ensures answer { MatchOption (manager_first sections.now self.old.list op) (result ≡ Ok tt) (λ why. result ≡ Err why) }
+        ensures ok { (ops : List Op) → self.old.manager.ops ≡ op ∷ ops → OnOk result (self.new ≡ begins_op sections.now self.old op ops) }
+        ensures err { OnErr result (self.new ≡ self.old) }
+    {
         match op {
             Op::Load { section } => self.load(section, sections.len_of(section)),
             Op::Unload { section } => self.unload(section),
             Op::Clean => {
-                self.list.sweep();
-                self.go_on();
+                self.clean();
                 Ok(())
             }
-            _ => Ok(()),
+            Op::Open { .. }
+            | Op::Close { .. }
+            | Op::Split { .. }
+            | Op::Swap { .. }
+            | Op::Trim { .. }
+            | Op::Enter { .. }
+            | Op::Leave { .. } => Ok(()),
         }
     }
 
-    fn load(&mut self, section: u32, length: u32) -> Result<(), StepRefused> {
-        match self.list.load(section, length) {
+    /// A section of so many tags is loaded, and the op is over.
+    fn load(&mut self, section: u32, tags: u32) -> Result<(), StepRefused>
+        requires { 1 ≤ tags }
+        ensures answer { MatchOption (load_refusal section tags self.old.list) (result ≡ Ok tt) (λ why. result ≡ Err (load_refused section why)) }
+        ensures ok { (op : Op) (ops : List Op) → self.old.manager.ops ≡ op ∷ ops
+            → OnOk result (self.new ≡ record self.old { list = loaded section tags self.old.list; manager = record { ops = ops; under_way = false } }) }
+        ensures err { OnErr result (self.new ≡ self.old) }
+    {
+        match self.list.load(section, tags) {
             Ok(()) => {
                 self.manager.end();
                 Ok(())
@@ -249,7 +265,13 @@ impl ModuleTable {
         }
     }
 
-    fn unload(&mut self, section: u32) -> Result<(), StepRefused> {
+    /// The section's module is dead, and a sweep of it begins.
+    fn unload(&mut self, section: u32) -> Result<(), StepRefused>
+        ensures answer { MatchOption (unload_refused section (loaded_entry section self.old.list)) (result ≡ Ok tt) (λ why. result ≡ Err why) }
+        ensures ok { (op : Op) (ops : List Op) → self.old.manager.ops ≡ op ∷ ops
+            → OnOk result (self.new ≡ unloads self.old op ops (loaded_entry section self.old.list)) }
+        ensures err { OnErr result (self.new ≡ self.old) }
+    {
         let Some(entry) = self.loaded(section) else {
             return Err(StepRefused::NotLoaded(section));
         };
@@ -261,8 +283,20 @@ impl ModuleTable {
         Ok(())
     }
 
+    /// A sweep of all dead modules begins.
+    fn clean(&mut self)
+        ensures { (op : Op) (ops : List Op) → self.old.manager.ops ≡ op ∷ ops
+            → self.new ≡ swept_on self.old op ops (swept_list self.old.list) }
+    {
+        self.list.sweep();
+        self.go_on();
+    }
+
     /// The op goes on, or ends where nothing is left to read or to release.
-    fn go_on(&mut self) {
+    fn go_on(&mut self)
+        ensures { (op : Op) (ops : List Op) → self.old.manager.ops ≡ op ∷ ops
+            → self.new ≡ swept_on self.old op ops self.old.list }
+    {
         if self.list.next() == Next::Nothing {
             self.manager.end();
         } else {
@@ -270,9 +304,25 @@ impl ModuleTable {
         }
     }
 
+    /// A sweep takes its next step, and the op goes on.
+    fn continue_sweep(&mut self, shape: Shape, words: &[CpuWords], by: Cause) -> Event
+        requires { (sections : List Section) × CanManage shape sections words.now self.old }
+        ensures told { result ≡ event_of_sweep shape words.now self.old.list by (next_of self.old.list.sweep) }
+        ensures after { (op : Op) (ops : List Op) → self.old.manager.ops ≡ op ∷ ops
+            → self.new ≡ swept_on self.old op ops (sweep_goes shape words.now self.old.list (next_of self.old.list.sweep)) }
+    {
+        let event = self.sweep_on(shape, words, by);
+        self.go_on();
+        event
+    }
+
     /// The sweep reads a word, or releases a module.
-    fn continue_sweep(&mut self, shape: Shape, words: &[CpuWords], by: Cause) -> Event {
-        let event = match self.list.next() {
+    fn sweep_on(&mut self, shape: Shape, words: &[CpuWords], by: Cause) -> Event
+        requires { (sections : List Section) × CanManage shape sections words.now self.old }
+        ensures told { result ≡ event_of_sweep shape words.now self.old.list by (next_of self.old.list.sweep) }
+        ensures after { self.new ≡ record self.old { list = sweep_goes shape words.now self.old.list (next_of self.old.list.sweep) } }
+    {
+        match self.list().next() {
             Next::Nothing => Event::Stepped,
             Next::Read(reader) => {
                 let found = self.list.scan(shape, word_read(words, reader));
@@ -283,9 +333,7 @@ impl ModuleTable {
                 self.list.release();
                 Event::Released { section, by }
             }
-        };
-        self.go_on();
-        event
+        }
     }
 
     /// The read that takes a module off the sweep's list is told.
