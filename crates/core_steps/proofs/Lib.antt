@@ -21,3 +21,4 @@ pub mod Found
 pub mod ManagerRow
 pub mod ManagerCore
 pub mod ManagerLeft
+pub mod ManagerRelease
