@@ -16,14 +16,26 @@ use Rattle.tag_model.specs.WordState.{is_cpu, is_place, is_place_at, is_list, is
 use Rattle.tag_model.specs.Laws.{Safe, OneOfEach, SumLaw, CoverLaw, SweepLaw, list_fits, is_reading, cleared, same_run, same_note, runs_of_cpu}
 use Rattle.tag_model.specs.declared.state.Hand.{Hand}
 use Rattle.core_steps.specs.declared.op.TheConstants.{KEY_END}
-use Rattle.core_steps.specs.Machine.{Waiting, machine_of, nothing_waits, reserves}
-use Rattle.core_steps.specs.CoreState.{cpu_part, cpu_parts, place_parts, no_modules, state_of, IsCore, IsReadyAt}
-use Rattle.core_steps.proofs.Parts.{sum_both}
+use Rattle.core_steps.specs.Machine.{Waiting, machine_of, nothing_waits, reserves, run_at}
+use Rattle.tag_model.specs.declared.state.Run.{Run}
+use Rattle.tag_model.specs.declared.state.ListPart.{ListPart}
+use Rattle.tag_model.specs.declared.state.Sweep.TheVariants as sweep
+use Rattle.tag_section.specs.Section.{Section}
+use Rattle.core_steps.specs.Modules.{ModuleTable}
+use Rattle.core_steps.specs.CoreState.{cpu_part, cpu_parts, place_parts, runs_in, runs_of, state_with, fresh_modules, AreModules, SectionsFitShape, IsCore, IsReadyAt}
+use Rattle.core_steps.proofs.Parts.{sum_both, cpu_parts-same}
 
-zero_cpus : (f : Part → ℕ) (own : List ℕ) (n count : ℕ) → ((j : ℕ) → j < n + count → f (Cpu (cpu_part j None own)) ≡ 0) → sum_by f (cpu_parts n (replicate count None) (replicate count own)) ≡ 0
+-- no CPU is inside a module, and none was ever loaded
+abbrev no_runs : ℕ → List Run
+no_runs cpu = []
+
+abbrev no_modules : ListPart
+no_modules = record { records = []; sweep = sweep.None; stops = []; reads = 0; away = [] }
+
+zero_cpus : (f : Part → ℕ) (own : List ℕ) (n count : ℕ) → ((j : ℕ) → j < n + count → f (Cpu (cpu_part j None own [])) ≡ 0) → sum_by f (cpu_parts n (replicate count None) (replicate count own) no_runs) ≡ 0
 zero_cpus f own n zero h = refl
 zero_cpus f own n (suc count) h =
-    omega (arith, sum_by-cons f (Cpu (cpu_part n None own)) (cpu_parts (n + 1) (replicate count None) (replicate count own)), h n (omega arith), zero_cpus f own (n + 1) count (λ j l. h j (omega arith)))
+    omega (arith, sum_by-cons f (Cpu (cpu_part n None own [])) (cpu_parts (n + 1) (replicate count None) (replicate count own) no_runs), h n (omega arith), zero_cpus f own (n + 1) count (λ j l. h j (omega arith)))
 
 zero_places : (f : Part → ℕ) (n count : ℕ) → ((j : ℕ) → f (Place j held.None) ≡ 0) → sum_by f (place_parts n (replicate count held.None)) ≡ 0
 zero_places f n zero h = refl
@@ -39,11 +51,11 @@ zero_word n i = elim (cases_lt i n) [
 ]
 
 -- each CPU of a run of numbers once
-one_cpu : (own : List ℕ) (i n count : ℕ) → sum_by (is_cpu i) (cpu_parts n (replicate count None) (replicate count own)) ≡ one_if (nat_le n i && nat_lt i (n + count))
+one_cpu : (own : List ℕ) (i n count : ℕ) → sum_by (is_cpu i) (cpu_parts n (replicate count None) (replicate count own) no_runs) ≡ one_if (nat_le n i && nat_lt i (n + count))
 one_cpu own i n zero = grind (arith, nat_tests)
 one_cpu own i n (suc count) =
     let rest = one_cpu own i (n + 1) count in
-    let all = sum_by-cons (is_cpu i) (Cpu (cpu_part n None own)) (cpu_parts (n + 1) (replicate count None) (replicate count own)) in
+    let all = sum_by-cons (is_cpu i) (Cpu (cpu_part n None own [])) (cpu_parts (n + 1) (replicate count None) (replicate count own) no_runs) in
     grind (arith, nat_tests)
 
 one_place : (i n count : ℕ) → sum_by (is_place_at i) (place_parts n (replicate count held.None)) ≡ one_if (nat_le n i && nat_lt i (n + count))
@@ -66,7 +78,7 @@ module _ (k : Shape) (checked : IsChecked k) (places : ℕ) (few : places ≤ MA
   own = replicate (2 * k.tags) 0
 
   cpus : List Part
-  cpus = cpu_parts 0 (replicate k.cpus None) (replicate k.cpus own)
+  cpus = cpu_parts 0 (replicate k.cpus None) (replicate k.cpus own) no_runs
 
   all : List Part
   all = place_parts 0 (replicate places held.None)
@@ -75,12 +87,12 @@ module _ (k : Shape) (checked : IsChecked k) (places : ℕ) (few : places ≤ MA
   parts = cpus ++ (all ++ Modules no_modules ∷ NextId 1 ∷ [])
 
   -- a weight that no part of a fresh core has
-  none : (f : Part → ℕ) → ((j : ℕ) → j < k.cpus → f (Cpu (cpu_part j None own)) ≡ 0) → ((j : ℕ) → f (Place j held.None) ≡ 0) → f (Modules no_modules) ≡ 0 → f (NextId 1) ≡ 0 → sum_by f parts ≡ 0
+  none : (f : Part → ℕ) → ((j : ℕ) → j < k.cpus → f (Cpu (cpu_part j None own [])) ≡ 0) → ((j : ℕ) → f (Place j held.None) ≡ 0) → f (Modules no_modules) ≡ 0 → f (NextId 1) ≡ 0 → sum_by f parts ≡ 0
   unfolding parts cpus all
   none f on_cpus on_places on_list on_pass =
       omega (
         arith,
-        sum_state f (cpu_parts 0 (replicate k.cpus None) (replicate k.cpus own)) (place_parts 0 (replicate places held.None)),
+        sum_state f (cpu_parts 0 (replicate k.cpus None) (replicate k.cpus own) no_runs) (place_parts 0 (replicate places held.None)),
         zero_cpus f own 0 k.cpus (λ j l. on_cpus j (omega arith)),
         zero_places f 0 places on_places,
         on_list,
@@ -121,41 +133,101 @@ module _ (k : Shape) (checked : IsChecked k) (places : ℕ) (few : places ≤ MA
     notes_agree = λ n some. absurd (omega (arith, none (notes_with (same_note n)) (λ j l. refl) (λ j. refl) refl refl));
   }
 
-  sweep : SweepLaw k parts
-  sweep = record {
+  sweep_law : SweepLaw k parts
+  sweep_law = record {
     fits = none (λ p. one_if (not (list_fits k p))) (λ j l. refl) (λ j. refl) refl refl;
     reading = λ kind some. absurd (omega (arith, none (is_reading kind) (λ j l. refl) (λ j. refl) refl refl));
     cleared = λ kind t some. absurd (omega (arith, none (cleared kind t) (λ j l. refl) (λ j. refl) refl refl));
   }
 
-  pub safe_fresh : Safe k (cpu_parts 0 (replicate k.cpus None) (replicate k.cpus (replicate (2 * k.tags) 0)) ++ (place_parts 0 (replicate places held.None) ++ Modules no_modules ∷ NextId 1 ∷ []))
+  pub safe_fresh : Safe k (cpu_parts 0 (replicate k.cpus None) (replicate k.cpus (replicate (2 * k.tags) 0)) no_runs ++ (place_parts 0 (replicate places held.None) ++ Modules no_modules ∷ NextId 1 ∷ []))
   unfolding parts cpus all own
-  safe_fresh = record { fits = fits; each = each; sums = sums; cover = cover; sweep = sweep }
+  safe_fresh = record { fits = fits; each = each; sums = sums; cover = cover; sweep = sweep_law }
 
 length-fresh : {A : Type 0} → (n : ℕ) (x : A) → length (replicate n x) ≡ n
 length-fresh n x = length-replicate n x
 
-ready_fresh : (cpus kernel_len places cpu : ℕ) → cpu < cpus → IsReadyAt kernel_len (machine_of (replicate cpus None) (replicate places held.None) (replicate cpus nothing_waits)) cpu
-ready_fresh cpus kernel_len places cpu below =
+ready_fresh : (cpus : ℕ) (sections : List Section) (places cpu : ℕ) → cpu < cpus → IsReadyAt sections (machine_of (replicate cpus None) (replicate places held.None) (replicate cpus nothing_waits)) cpu
+ready_fresh cpus sections places cpu below =
     rw (get_or-replicate cpus cpu nothing_waits nothing_waits below, get_or-replicate {A = Option Hand} cpus cpu None None below) (refl, refl)
 
-pub core_fresh : (k : Shape) (kernel_len : ℕ) (hands : List (Option Hand)) (places : List Held) (waiting : List Waiting) (words : List (List ℕ)) → IsChecked k → kernel_len ≤ k.kernel_tags
-    → hands ≡ replicate k.cpus None → places ≡ replicate KEY_END held.None → waiting ≡ replicate k.cpus nothing_waits → words ≡ replicate k.cpus (replicate (2 * k.tags) 0)
-    → IsCore (record { shape = k; kernel_len = kernel_len; machine = machine_of hands places waiting; words = words })
-unfolding state_of
-core_fresh k kernel_len hands places waiting words checked kernel h p w o = rw (h, p, w, o) (record {
+none_run : (n : ℕ) → runs_in (replicate n None) ≡ []
+none_run zero = refl
+none_run (suc n) = none_run n
+
+-- no CPU has a run
+no_inside : ℕ → List (Option Run)
+no_inside sections = replicate sections None
+
+runs_fresh : (count sections cpu : ℕ) → runs_in (get_or (replicate count (no_inside sections)) cpu []) ≡ []
+unfolding no_inside
+runs_fresh count sections cpu = elim (cases_lt cpu count) [
+  | inl l ↦ rw (get_or-replicate {A = List (Option Run)} count cpu (no_inside sections) [] l) (none_run sections)
+  | inr past ↦ rw (get_or_past (replicate {A = List (Option Run)} count (no_inside sections)) cpu [] (omega (arith, length-replicate {A = List (Option Run)} count (no_inside sections)))) refl
+]
+
+empty_slot : (sections section : ℕ) → run_at (no_inside sections) section ≡ None
+unfolding no_inside
+empty_slot sections section = elim (cases_lt section sections) [
+  | inl below ↦ get_or-replicate {A = Option Run} sections section None None below
+  | inr past ↦ get_or_past (replicate {A = Option Run} sections None) section None (omega (arith, length-replicate {A = Option Run} sections None))
+]
+
+no_slot : (count sections cpu section : ℕ) → run_at (get_or (replicate count (no_inside sections)) cpu []) section ≡ None
+no_slot count sections cpu section = elim (cases_lt cpu count) [
+  | inl l ↦ rw (get_or-replicate {A = List (Option Run)} count cpu (no_inside sections) [] l) (empty_slot sections section)
+  | inr past ↦ rw (get_or_past (replicate {A = List (Option Run)} count (no_inside sections)) cpu [] (omega (arith, length-replicate {A = List (Option Run)} count (no_inside sections)))) refl
+]
+
+modules_fresh : (k : Shape) (sections : List Section) → IsChecked k → AreModules k sections (fresh_modules k (length sections))
+unfolding no_inside
+modules_fresh k sections checked = record {
+  cpus = length-fresh k.cpus (replicate (length sections) None);
+  slots = λ cpu below. rw (get_or-replicate k.cpus cpu (replicate {A = Option Run} (length sections) None) [] below) (length-fresh (length sections) None);
+  runs = λ cpu section r is. let none = no_slot k.cpus (length sections) cpu section in cc;
+  list = record {
+    book = let a = checked.few_tags in let b = checked.few_kernel_tags in record {
+      few = omega arith;
+      above_zero = λ i d l. absurd (omega arith);
+      rising = λ i j d l m. absurd (omega arith);
+      some_tags = λ i d l. absurd (omega arith);
+      in_area = λ i d l. absurd (omega arith);
+      apart = λ i j d l m. absurd (omega arith);
+      loaded_once = λ i j d l m. absurd (omega arith);
+      small = omega arith;
+    };
+    given = λ i d l. absurd (omega arith);
+    last = omega arith;
+    few = omega arith;
+  };
+  first = refl;
+  tags = omega (arith, checked.few_kernel_tags);
+  entries = λ i d l. absurd (omega arith);
+  ops = tt;
+  goes_on = λ on. cc;
+}
+
+pub core_fresh : (k : Shape) (sections : List Section) (hands : List (Option Hand)) (places : List Held) (waiting : List Waiting) (words : List (List ℕ)) (ms : ModuleTable) → IsChecked k → SectionsFitShape k sections
+    → hands ≡ replicate k.cpus None → places ≡ replicate KEY_END held.None → waiting ≡ replicate k.cpus nothing_waits → words ≡ replicate k.cpus (replicate (2 * k.tags) 0) → ms ≡ fresh_modules k (length sections)
+    → IsCore (record { shape = k; sections = sections; machine = machine_of hands places waiting; words = words; modules = ms })
+unfolding state_with no_inside
+core_fresh k sections hands places waiting words ms checked fit h p w o l = rw (h, p, w, o, l) (record {
   shape = checked;
-  kernel = kernel;
+  sections = fit;
   machine = record {
     hands = length-fresh k.cpus None;
     waiting = length-fresh k.cpus nothing_waits;
     places = length-fresh KEY_END held.None;
-    ready = λ cpu below. ready_fresh k.cpus kernel_len KEY_END cpu below;
+    ready = λ cpu below. ready_fresh k.cpus sections KEY_END cpu below;
     apart = λ i j key wi wj ne ri rj. no_reserve k.cpus i key wi ri;
   };
   words = length-fresh k.cpus (replicate (2 * k.tags) 0);
   own_words = λ cpu below. rw (get_or-replicate k.cpus cpu (replicate {A = ℕ} (2 * k.tags) 0) [] below) (length-fresh (2 * k.tags) 0);
-  safe = safe_fresh k checked KEY_END (omega arith);
+  modules = modules_fresh k sections checked;
+  safe =
+      subst (λ (ps : List Part). Safe k (ps ++ (place_parts 0 (replicate KEY_END held.None) ++ Modules no_modules ∷ NextId 1 ∷ [])))
+      (sym (cpu_parts-same 0 (replicate k.cpus None) (replicate k.cpus (replicate (2 * k.tags) 0)) (runs_of (fresh_modules k (length sections))) no_runs (λ j low. runs_fresh k.cpus (length sections) j)))
+      (safe_fresh k checked KEY_END (omega arith));
 })
   where
     no_reserve : (cpus i key : ℕ) → i < cpus → reserves key (get_or (replicate cpus nothing_waits) i nothing_waits) ≡ true → ⊥

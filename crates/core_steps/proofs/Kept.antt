@@ -1,27 +1,35 @@
 -- A core stays a core: what a step of a CPU leaves of the whole machine.
-use Rattle.std.proofs.Common.{◌≡◌, ◌≢◌, ℕ, ◌*◌, ◌<◌, ◌≤◌, List, [], ◌∷◌, ◌++◌, length, set, refl, sym, ap, ◌∙◌, subst, arith, Option, Some, None, true, false, inl, inr, OnOk, OnErr, Result, Ok, Err, MatchOption, take, drop}
+use Rattle.std.proofs.Common.{◌≡◌, ◌≢◌, ℕ, ◌+◌, ◌-◌, ◌*◌, ◌<◌, ◌≤◌, ◌==◌, nat_lt, cond, Bool, List, [], ◌∷◌, ◌++◌, length, set, refl, sym, ap, ◌∙◌, subst, arith, Option, Some, None, true, false, inl, inr, OnOk, OnErr, Result, Ok, Err, MatchOption, take, drop}
 use Rattle.std.proofs.Math.Seq.{take-append_seam}
 use Rattle.core_steps.specs.declared.op.Event.{Event}
 use Rattle.core_steps.specs.declared.op.Event.TheVariants.{Stepped}
 use Rattle.core_steps.specs.declared.op.StepRefused.{StepRefused}
-use Rattle.tag_model.specs.StepRules.{Steps}
+use Rattle.tag_model.specs.StepRules.{StepsWith}
+use Rattle.tag_model.specs.StepRules.StepsWith.{alone}
+use Rattle.tag_model.proofs.Steps.{safe-steps_with}
+use Rattle.tag_model.specs.declared.state.Run.{Run}
+use Rattle.tag_model.specs.declared.state.Part.{Part}
+use Rattle.tag_section.specs.Section.{Section}
+use Rattle.core_steps.specs.declared.op.Actor.TheVariants as actor
+use Rattle.core_steps.specs.Modules.{ModuleTable, inside_at, scene_at, modules_after}
+use Rattle.core_steps.proofs.GoesIn.{goes_in_row, goes_out_row, in_modules, out_modules, in_fits, out_fits, begins_in}
 use Rattle.std.proofs.lemmas.Bool.Decides.{nat_tests}
 use Rattle.std.proofs.lemmas.Bool.{cases_eq, cases_lt}
-use Rattle.std.proofs.lemmas.List.{get_or-set_same, get_or-set_other, length-set, get_or_past}
+use Rattle.std.proofs.lemmas.List.{get_or-set_same, get_or-set_other, length-set, get_or_past, set-get_or}
 use Rattle.std.proofs.lemmas.List.Folds.{list_any_at}
 use Rattle.tag_model.specs.declared.shape.Shape.{Shape}
 use Rattle.tag_model.specs.declared.state.Hand.{Hand}
 use Rattle.tag_model.specs.declared.state.Held.{Held}
 use Rattle.core_steps.specs.declared.op.Op.{Op}
-use Rattle.core_steps.specs.declared.op.Op.TheVariants.{Open, Close, Split, Swap, Trim}
+use Rattle.core_steps.specs.declared.op.Op.TheVariants.{Open, Close, Split, Swap, Trim, Enter, Leave, Load, Unload, Clean}
+use Rattle.core_steps.specs.declared.step.WordStep.TheVariants.{BeginAllocation, AddBytes, AddCall, SubtractBytes, SubtractCall, Write, GoIn, GoOut}
 use Rattle.core_steps.specs.declared.step.WordStep.{WordStep}
 use Rattle.core_steps.specs.declared.op.StepRefused.TheVariants.{NoStep}
 use Rattle.core_steps.specs.declared.op.TheConstants.{KEY_END}
-use Rattle.core_steps.specs.Machine.{Waiting, Machine, nothing_waits, reserves, names_key, hand_at, waiting_at, step_of, hand_after, words_after, advanced, first_refusal, refusal_in, refusal_of, stepped_by, after_step, step_count, KeysFit, HasCall, CanTake, machine_of}
-use Rattle.core_steps.specs.CoreState.{CoreState, IsReady, IsReadyAt, IsMachine, IsCore, IsUnderWay, IsOp, words_at, words_stepped, words_after_step, state_of, word_state, CanGo, CanStep}
-use Rattle.core_steps.proofs.Ready.{Next, next, others_ready, free_key}
-use Rattle.core_steps.proofs.Takes.{places_fit, leads_step, hand_seen, can_take, length-places_after, length-words_after}
-use Rattle.core_steps.proofs.Leads.{Leads}
+use Rattle.core_steps.specs.Machine.{Waiting, Machine, Scene, machine_after, places_after, tag_in, part_key, share_step, put_step, clear_step, put_down, in_hand, held_at, bytes_in, nothing_waits, reserves, names_key, hand_at, waiting_at, step_of, hand_after, words_after, advanced, first_refusal, refusal_in, refusal_of, stepped_by, after_step, step_count, KeysFit, HasCall, CanTake, machine_of}
+use Rattle.core_steps.specs.CoreState.{CoreState, AreModules, SectionsFit, TagFits, ListFits, runs_in, runs_of, list_parts, state_with, state_after, modules_stepped, modules_after_step, refused, stepped, IsReady, IsReadyAt, IsMachine, IsCore, IsUnderWay, IsOp, words_at, words_stepped, words_after_step, state_of, CanGo, CanStep}
+use Rattle.core_steps.proofs.Ready.{Next, next, others_ready, free_key, running_first}
+use Rattle.core_steps.proofs.Takes.{IsRuled, places_fit, leads_step, hand_seen, can_take, length-places_after, length-words_after}
 
 -- ---- keys
 
@@ -34,23 +42,23 @@ reserved_now key done op ops some names = grind (arith, nat_tests)
 names_reserved : (key done : ℕ) (op : Op) (ops : List Op) → reserves key (record { ops = op ∷ ops; done = done }) ≡ true → names_key key op ≡ true
 names_reserved key done op ops h = grind (arith, nat_tests)
 
-module _ (cpus kernel_len : ℕ) (m : Machine) (cpu : ℕ) (op : Op) (ops : List Op) (done : ℕ) (is : IsMachine cpus kernel_len m) (below : cpu < cpus)
-    (waits : waiting_at m cpu ≡ record { ops = op ∷ ops; done = done }) (free : done ≡ 0 → first_refusal m.places m.waiting op ≡ None)
-    (k : Shape) (n : Next k kernel_len m.places (hand_at m cpu) op ops done) where
+module _ (cpus : ℕ) (sections : List Section) (scene : Scene) (m : Machine) (cpu : ℕ) (op : Op) (ops : List Op) (done : ℕ) (is : IsMachine cpus sections m) (below : cpu < cpus)
+    (waits : waiting_at m cpu ≡ record { ops = op ∷ ops; done = done }) (free : done ≡ 0 → first_refusal m.places m.waiting scene op ≡ None)
+    (k : Shape) (inside : List (Option Run)) (n : Next k sections inside m.places (hand_at m cpu) op ops done) where
   -- no other CPU reserves a key that the op names
   pub clear : (j key : ℕ) → j < cpus → j ≢ cpu → names_key key op ≡ true → reserves key (waiting_at m j) ≡ true → ⊥
   clear j key within apart names reserved = elim (cases_eq done 0) [
     | inl zero_done ↦
         let any = list_any_at (reserves key) m.waiting j nothing_waits (omega (arith, is.waiting)) reserved in
-        let none = free_key m.places m.waiting op key (free zero_done) names in cc
+        let none = free_key m.places m.waiting scene op key (free zero_done) names in cc
     | inr some ↦ is.apart cpu j key below within (λ e. apart (sym e)) (subst (λ (w : Waiting). reserves key w ≡ true) (sym waits) (reserved_now key done op ops (omega arith) names)) reserved
   ]
 
   step : WordStep
-  step = step_of op done (hand_at m cpu) m.places
+  step = step_of op done (hand_at m cpu) m.places inside
 
   after : Machine
-  after = stepped_by m cpu (op ∷ ops) done
+  after = stepped_by m inside cpu (op ∷ ops) done
 
   waiting_here : waiting_at after cpu ≡ advanced (op ∷ ops) done
   unfolding after
@@ -62,25 +70,25 @@ module _ (cpus kernel_len : ℕ) (m : Machine) (cpu : ℕ) (op : Op) (ops : List
 
   hand_here : hand_at after cpu ≡ hand_after step (hand_at m cpu)
   unfolding after step
-  hand_here = get_or-set_same m.hands cpu (hand_after (step_of op done (hand_at m cpu) m.places) (hand_at m cpu)) None (omega (arith, is.hands))
+  hand_here = get_or-set_same m.hands cpu (hand_after (step_of op done (hand_at m cpu) m.places inside) (hand_at m cpu)) None (omega (arith, is.hands))
 
   hand_there : (j : ℕ) → j ≢ cpu → hand_at after j ≡ hand_at m j
   unfolding after
-  hand_there j ne = get_or-set_other m.hands cpu j (hand_after (step_of op done (hand_at m cpu) m.places) (hand_at m cpu)) None ne
+  hand_there j ne = get_or-set_other m.hands cpu j (hand_after (step_of op done (hand_at m cpu) m.places inside) (hand_at m cpu)) None ne
 
-  ready_here : IsReadyAt kernel_len after cpu
+  ready_here : IsReadyAt sections after cpu
   unfolding after step
   ready_here =
-      subst (λ (w : Waiting). IsReady kernel_len after.places (hand_at after cpu) w.ops w.done) (sym waiting_here)
-      (subst (λ (h : Option Hand). IsReady kernel_len after.places h (advanced (op ∷ ops) done).ops (advanced (op ∷ ops) done).done) (sym hand_here)
+      subst (λ (w : Waiting). IsReady sections after.places (hand_at after cpu) w.ops w.done) (sym waiting_here)
+      (subst (λ (h : Option Hand). IsReady sections after.places h (advanced (op ∷ ops) done).ops (advanced (op ∷ ops) done).done) (sym hand_here)
       n.ready)
 
-  ready_there : (j : ℕ) → j < cpus → j ≢ cpu → IsReadyAt kernel_len after j
+  ready_there : (j : ℕ) → j < cpus → j ≢ cpu → IsReadyAt sections after j
   unfolding after
   ready_there j within ne =
-      subst (λ (w : Waiting). IsReady kernel_len after.places (hand_at after j) w.ops w.done) (sym (waiting_there j ne))
-      (subst (λ (h : Option Hand). IsReady kernel_len after.places h (waiting_at m j).ops (waiting_at m j).done) (sym (hand_there j ne))
-      (others_ready kernel_len m.places after.places (hand_at m j) (waiting_at m j).ops (waiting_at m j).done (is.ready j within)
+      subst (λ (w : Waiting). IsReady sections after.places (hand_at after j) w.ops w.done) (sym (waiting_there j ne))
+      (subst (λ (h : Option Hand). IsReady sections after.places h (waiting_at m j).ops (waiting_at m j).done) (sym (hand_there j ne))
+      (others_ready sections m.places after.places (hand_at m j) (waiting_at m j).ops (waiting_at m j).done (is.ready j within)
       (λ key reserved. n.kept key (not_named key (λ names. clear j key within ne names reserved)))))
     where
       not_named : (key : ℕ) → (names_key key op ≡ true → ⊥) → names_key key op ≡ false
@@ -100,14 +108,14 @@ module _ (cpus kernel_len : ℕ) (m : Machine) (cpu : ℕ) (op : Op) (ops : List
     ]
   ]
 
-  pub stepped_machine : IsMachine cpus kernel_len (stepped_by m cpu (op ∷ ops) done)
+  pub stepped_machine : IsMachine cpus sections (stepped_by m inside cpu (op ∷ ops) done)
   unfolding after
   stepped_machine = record {
-    hands = length-set m.hands cpu (hand_after (step_of op done (hand_at m cpu) m.places) (hand_at m cpu)) ∙ is.hands;
+    hands = length-set m.hands cpu (hand_after (step_of op done (hand_at m cpu) m.places inside) (hand_at m cpu)) ∙ is.hands;
     waiting = length-set m.waiting cpu (advanced (op ∷ ops) done) ∙ is.waiting;
-    places = length-places_after (step_of op done (hand_at m cpu) m.places) m.places ∙ is.places;
+    places = length-places_after (step_of op done (hand_at m cpu) m.places inside) m.places ∙ is.places;
     ready = λ j within. elim (cases_eq j cpu) [
-      | inl e ↦ subst (IsReadyAt kernel_len after) (sym e) ready_here
+      | inl e ↦ subst (IsReadyAt sections after) (sym e) ready_here
       | inr ne ↦ ready_there j within ne
     ];
     apart = apart_after;
@@ -122,59 +130,142 @@ words_kept tags words cpu step hand below each i within = elim (cases_eq i cpu) 
   | inr ne ↦ rw (get_or-set_other words cpu i (words_after step hand (words_at words cpu)) [] ne) (each i within)
 ]
 
+-- ---- the modules stay where the step is one on words and places
+
+module _ (ms : ModuleTable) (cpu : ℕ) where
+  stay_if : (b : Bool) (x y : WordStep) → modules_after x ms cpu ≡ ms → modules_after y ms cpu ≡ ms → modules_after (cond b x y) ms cpu ≡ ms
+  stay_if true x y h g = h
+  stay_if false x y h g = g
+
+  stay_share : (key : ℕ) (hand : Option Hand) → modules_after (share_step key hand) ms cpu ≡ ms
+  stay_share key None = refl
+  stay_share key (Some h) = refl
+
 -- ---- a core stays a core
 
-pub next_at : (s : CoreState) (cpu : ℕ) (op : Op) (ops : List Op) (done : ℕ) → IsCore s → IsReady s.kernel_len s.machine.places (hand_at s.machine cpu) (op ∷ ops) done → (done ≡ 0 → first_refusal s.machine.places s.machine.waiting op ≡ None)
-    → Next s.shape s.kernel_len s.machine.places (hand_at s.machine cpu) op ops done
-next_at s cpu op ops done core ready free =
-    next s.shape s.kernel_len core.kernel s.machine.places (places_fit s.shape s.machine s.words core.safe) core.machine.places (hand_at s.machine cpu) ops ready.2 s.machine.waiting op done ready.0 ready.1 free
+pub next_at : (s : CoreState) (cpu : ℕ) (op : Op) (ops : List Op) (done : ℕ) → IsCore s → cpu < s.shape.cpus → IsReady s.sections s.machine.places (hand_at s.machine cpu) (op ∷ ops) done
+    → (done ≡ 0 → first_refusal s.machine.places s.machine.waiting (scene_at s.modules cpu) op ≡ None)
+    → Next s.shape s.sections (inside_at s.modules cpu) s.machine.places (hand_at s.machine cpu) op ops done
+unfolding state_with
+next_at s cpu op ops done core below ready free =
+    next s.shape s.sections (inside_at s.modules cpu) s.machine.places (places_fit s.shape s.machine s.words (runs_of s.modules) (list_parts 0 [] s.modules.list) core.safe) core.machine.places (hand_at s.machine cpu) ops ready.2
+    s.machine.waiting (scene_at s.modules cpu) op done refl ready.0 ready.1 free
+    (λ section index has in_section inside. let b = begins_in s core cpu below section index has in_section inside in record { allowed = b.0; below = b.1 })
 
-leads_op : (s : CoreState) (cpu : ℕ) (op : Op) (ops : List Op) (done : ℕ) → IsCore s → cpu < s.shape.cpus → Next s.shape s.kernel_len s.machine.places (hand_at s.machine cpu) op ops done
-    → Leads s.shape (word_state s) (state_of (stepped_by s.machine cpu (op ∷ ops) done) (words_stepped s.machine s.words cpu (op ∷ ops) done))
-unfolding state_of
-leads_op s cpu op ops done core below n =
-    leads_step s.shape core.shape s.machine s.words cpu (core.machine.hands ∙ sym core.words) (omega (arith, core.machine.hands)) (step_of op done (hand_at s.machine cpu) s.machine.places) n.ruled
+-- the machine, its words and its modules after a step, by the ops that wait
+abbrev after_ops : ℕ → CoreState → ℕ → List Op → ℕ → List Part
+after_ops reads s cpu ops done = state_of reads (stepped_by s.machine (inside_at s.modules cpu) cpu ops done) (words_stepped s.machine (inside_at s.modules cpu) s.words cpu ops done) (modules_stepped s.machine s.modules cpu ops done)
 
--- the machine and its words after a step that isn't refused, by the ops that wait
+module _ (s : CoreState) (cpu : ℕ) (core : IsCore s) (below : cpu < s.shape.cpus) where
+  here : List (Option Run)
+  here = inside_at s.modules cpu
+
+  word_leads : (reads : ℕ) (op : Op) (ops : List Op) (done : ℕ) → IsRuled s.shape (runs_in (inside_at s.modules cpu)) (step_of op done (hand_at s.machine cpu) s.machine.places (inside_at s.modules cpu)) (hand_at s.machine cpu) s.machine.places
+      → modules_after (step_of op done (hand_at s.machine cpu) s.machine.places (inside_at s.modules cpu)) s.modules cpu ≡ s.modules
+      → StepsWith s.shape (state_after reads s) (after_ops reads s cpu (op ∷ ops) done)
+  unfolding state_with
+  word_leads reads op ops done ruled stay =
+      let own : cpu ≡ 0 + cpu = omega arith in
+      let led = leads_step s.shape core.shape s.machine s.words cpu (runs_of s.modules) (list_parts reads [] s.modules.list) (core.machine.hands ∙ sym core.words) (omega (arith, core.machine.hands))
+      (step_of op done (hand_at s.machine cpu) s.machine.places (inside_at s.modules cpu))
+      (subst (λ (n : ℕ). IsRuled s.shape (runs_of s.modules n) (step_of op done (hand_at s.machine cpu) s.machine.places (inside_at s.modules cpu)) (hand_at s.machine cpu) s.machine.places) own ruled) in
+      rw stay (alone led.steps)
+
+  -- what goes in or out changes neither hands nor words
+  list_leads : (reads : ℕ) (op : Op) (ops : List Op) (step : WordStep) (w : Waiting) (next : ModuleTable)
+      → hand_after step (hand_at s.machine cpu) ≡ hand_at s.machine cpu → words_after step (hand_at s.machine cpu) (words_at s.words cpu) ≡ words_at s.words cpu → places_after step s.machine.places ≡ s.machine.places
+      → StepsWith s.shape (state_after reads s) (state_of reads s.machine s.words next)
+      → StepsWith s.shape (state_after reads s) (state_of reads (machine_after s.machine cpu step w) (set s.words cpu (words_after step (hand_at s.machine cpu) (words_at s.words cpu))) next)
+  unfolding state_with
+  list_leads reads op ops step w next hand words places led = rw (hand, words, places, set-get_or s.machine.hands cpu None, set-get_or s.words cpu []) led
+
+  leads_op : (reads : ℕ) (op : Op) (ops : List Op) (done : ℕ) → IsReady s.sections s.machine.places (hand_at s.machine cpu) (op ∷ ops) done
+      → (done ≡ 0 → first_refusal s.machine.places s.machine.waiting (scene_at s.modules cpu) op ≡ None)
+      → Next s.shape s.sections (inside_at s.modules cpu) s.machine.places (hand_at s.machine cpu) op ops done
+      → StepsWith s.shape (state_after reads s) (after_ops reads s cpu (op ∷ ops) done)
+  leads_op reads (Open key section index size) ops done ready free n = word_leads reads (Open key section index size) ops done n.ruled (stay_if s.modules cpu (done == 0) _ _ refl (stay_if s.modules cpu (done == 1) _ _ refl refl))
+  leads_op reads (Close key) ops done ready free n = word_leads reads (Close key) ops done n.ruled (stay_if s.modules cpu (done == 0) _ _ refl (stay_if s.modules cpu (done == 1) _ _ refl refl))
+  leads_op reads (Split key parts first) ops done ready free n = word_leads reads (Split key parts first) ops done n.ruled
+      (stay_if s.modules cpu (done == 0) _ _ refl (stay_if s.modules cpu (nat_lt done parts) _ _ refl (stay_share s.modules cpu (part_key key first (done - parts)) (hand_at s.machine cpu))))
+  leads_op reads (Swap one two) ops done ready free n = word_leads reads (Swap one two) ops done n.ruled (stay_if s.modules cpu (done == 0) _ _ refl (stay_if s.modules cpu (done == 1) _ _ refl refl))
+  leads_op reads (Trim key bytes) ops done ready free n = word_leads reads (Trim key bytes) ops done n.ruled (stay_if s.modules cpu (done == 0) _ _ refl (stay_if s.modules cpu (done == 1) _ _ refl refl))
+  leads_op reads (Enter section) ops done ready free n =
+      let first : done ≡ 0 = omega (arith, ready.0.within) in
+      list_leads reads (Enter section) ops (GoIn section) (advanced (Enter section ∷ ops) done) (modules_after (GoIn section) s.modules cpu) refl refl refl
+      (goes_in_row s core cpu below section ready.1.has_section (free first) n.ruled reads)
+  leads_op reads (Leave section) ops done ready free n =
+      let first : done ≡ 0 = omega (arith, ready.0.within) in
+      list_leads reads (Leave section) ops (GoOut section) (advanced (Leave section ∷ ops) done) (modules_after (GoOut section) s.modules cpu) refl refl refl
+      (goes_out_row s core cpu below section ready.1.has_section (free first) n.ruled reads)
+  leads_op reads (Load section) ops done ready free n = elim ready.1 [ ]
+  leads_op reads (Unload section) ops done ready free n = elim ready.1 [ ]
+  leads_op reads Clean ops done ready free n = elim ready.1 [ ]
+
+  -- the modules are some again
+  modules_op : (op : Op) (ops : List Op) (done : ℕ) → IsReady s.sections s.machine.places (hand_at s.machine cpu) (op ∷ ops) done
+      → (done ≡ 0 → first_refusal s.machine.places s.machine.waiting (scene_at s.modules cpu) op ≡ None)
+      → AreModules s.shape s.sections (modules_stepped s.machine s.modules cpu (op ∷ ops) done)
+  modules_op (Open key section index size) ops done ready free = rw (stay_if s.modules cpu (done == 0) (BeginAllocation (tag_in (inside_at s.modules cpu) section index)) _ refl (stay_if s.modules cpu (done == 1) (AddBytes size) (put_step key (hand_at s.machine cpu)) refl refl)) core.modules
+  modules_op (Close key) ops done ready free = rw (stay_if s.modules cpu (done == 0) (clear_step key s.machine.places) _ refl (stay_if s.modules cpu (done == 1) (SubtractBytes (bytes_in (hand_at s.machine cpu))) SubtractCall refl refl)) core.modules
+  modules_op (Split key parts first) ops done ready free =
+      rw (stay_if s.modules cpu (done == 0) (clear_step key s.machine.places) _ refl
+      (stay_if s.modules cpu (nat_lt done parts) AddCall (share_step (part_key key first (done - parts)) (hand_at s.machine cpu)) refl (stay_share s.modules cpu (part_key key first (done - parts)) (hand_at s.machine cpu)))) core.modules
+  modules_op (Swap one two) ops done ready free =
+      rw (stay_if s.modules cpu (done == 0) (clear_step one s.machine.places) _ refl (stay_if s.modules cpu (done == 1) (Write two (put_down (hand_at s.machine cpu)) (in_hand (held_at s.machine.places two))) (put_step one (hand_at s.machine cpu)) refl refl)) core.modules
+  modules_op (Trim key bytes) ops done ready free =
+      rw (stay_if s.modules cpu (done == 0) (clear_step key s.machine.places) _ refl (stay_if s.modules cpu (done == 1) (SubtractBytes bytes) (put_step key (hand_at s.machine cpu)) refl refl)) core.modules
+  modules_op (Enter section) ops done ready free = let first : done ≡ 0 = omega (arith, ready.0.within) in in_modules s core cpu below section ready.1.has_section (free first)
+  modules_op (Leave section) ops done ready free = let first : done ≡ 0 = omega (arith, ready.0.within) in out_modules s core cpu below section ready.1.has_section (free first)
+  modules_op (Load section) ops done ready free = elim ready.1 [ ]
+  modules_op (Unload section) ops done ready free = elim ready.1 [ ]
+  modules_op Clean ops done ready free = elim ready.1 [ ]
+
+-- the core after a step that isn't refused, by the ops that wait
 record Goes (s : CoreState) (cpu : ℕ) (ops : List Op) (done : ℕ) : Type 0 where
-  leads : Leads s.shape (word_state s) (state_of (stepped_by s.machine cpu ops done) (words_stepped s.machine s.words cpu ops done))
-  core : IsCore (record s { machine = stepped_by s.machine cpu ops done; words = words_stepped s.machine s.words cpu ops done })
+  steps : (reads : ℕ) → StepsWith s.shape (state_after reads s) (after_ops reads s cpu ops done)
+  core : IsCore (record s {
+    machine = stepped_by s.machine (inside_at s.modules cpu) cpu ops done;
+    words = words_stepped s.machine (inside_at s.modules cpu) s.words cpu ops done;
+    modules = modules_stepped s.machine s.modules cpu ops done;
+  })
 
-pub first_passes : (m : Machine) (op : Op) (ops : List Op) (done : ℕ) → refusal_in m (op ∷ ops) done ≡ None → done ≡ 0 → first_refusal m.places m.waiting op ≡ None
-first_passes m op ops done none e = let at_start : refusal_in m (op ∷ ops) 0 ≡ None = subst (λ (d : ℕ). refusal_in m (op ∷ ops) d ≡ None) e none in at_start
+pub first_passes : (m : Machine) (scene : Scene) (op : Op) (ops : List Op) (done : ℕ) → refusal_in m scene (op ∷ ops) done ≡ None → done ≡ 0 → first_refusal m.places m.waiting scene op ≡ None
+first_passes m scene op ops done none e = let at_start : refusal_in m scene (op ∷ ops) 0 ≡ None = subst (λ (d : ℕ). refusal_in m scene (op ∷ ops) d ≡ None) e none in at_start
 
-goes : (s : CoreState) (cpu : ℕ) (ops : List Op) (done : ℕ) → IsCore s → cpu < s.shape.cpus → waiting_at s.machine cpu ≡ record { ops = ops; done = done } → refusal_in s.machine ops done ≡ None → Goes s cpu ops done
+goes : (s : CoreState) (cpu : ℕ) (ops : List Op) (done : ℕ) → IsCore s → cpu < s.shape.cpus → waiting_at s.machine cpu ≡ record { ops = ops; done = done } → refusal_in s.machine (scene_at s.modules cpu) ops done ≡ None → Goes s cpu ops done
 goes s cpu [] done core below waits none = cc
 goes s cpu (op ∷ ops) done core below waits none =
-    let ready : IsReady s.kernel_len s.machine.places (hand_at s.machine cpu) (op ∷ ops) done =
-    subst (λ (w : Waiting). IsReady s.kernel_len s.machine.places (hand_at s.machine cpu) w.ops w.done) waits (core.machine.ready cpu below) in
-    let free : (done ≡ 0 → first_refusal s.machine.places s.machine.waiting op ≡ None) = first_passes s.machine op ops done none in
-    let n = next_at s cpu op ops done core ready free in
-    let led = leads_op s cpu op ops done core below n in
+    let inside = inside_at s.modules cpu in
+    let ready : IsReady s.sections s.machine.places (hand_at s.machine cpu) (op ∷ ops) done =
+    subst (λ (w : Waiting). IsReady s.sections s.machine.places (hand_at s.machine cpu) w.ops w.done) waits (core.machine.ready cpu below) in
+    let free : (done ≡ 0 → first_refusal s.machine.places s.machine.waiting (scene_at s.modules cpu) op ≡ None) = first_passes s.machine (scene_at s.modules cpu) op ops done none in
+    let n = next_at s cpu op ops done core below ready free in
+    let led : ((reads : ℕ) → StepsWith s.shape (state_after reads s) (after_ops reads s cpu (op ∷ ops) done)) = λ reads. leads_op s cpu core below reads op ops done ready free n in
     record {
-      leads = led;
+      steps = led;
       core = record {
         shape = core.shape;
-        kernel = core.kernel;
-        machine = stepped_machine s.shape.cpus s.kernel_len s.machine cpu op ops done core.machine below waits free s.shape n;
-        words = length-set s.words cpu (words_after (step_of op done (hand_at s.machine cpu) s.machine.places) (hand_at s.machine cpu) (words_at s.words cpu)) ∙ core.words;
-        own_words = λ i within. words_kept s.shape.tags s.words cpu (step_of op done (hand_at s.machine cpu) s.machine.places) (hand_at s.machine cpu) (omega (arith, core.words)) (λ j w. core.own_words j (omega (arith, core.words))) i (omega (arith, core.words));
-        safe = led.safe core.safe;
+        sections = core.sections;
+        machine = stepped_machine s.shape.cpus s.sections (scene_at s.modules cpu) s.machine cpu op ops done core.machine below waits free s.shape inside n;
+        words = length-set s.words cpu (words_after (step_of op done (hand_at s.machine cpu) s.machine.places inside) (hand_at s.machine cpu) (words_at s.words cpu)) ∙ core.words;
+        own_words = λ i within. words_kept s.shape.tags s.words cpu (step_of op done (hand_at s.machine cpu) s.machine.places inside) (hand_at s.machine cpu) (omega (arith, core.words)) (λ j w. core.own_words j (omega (arith, core.words))) i (omega (arith, core.words));
+        modules = modules_op s cpu core below op ops done ready free;
+        safe = safe-steps_with s.shape (state_after 0 s) (after_ops 0 s cpu (op ∷ ops) done) core.shape (led 0) core.safe;
       };
     }
 
 -- what `go` leaves where it isn't refused
 pub record Gone (s : CoreState) (cpu : ℕ) : Type 0 where
-  pub leads : Leads s.shape (word_state s) (state_of (after_step s.machine cpu) (words_after_step s.machine s.words cpu))
-  pub core : IsCore (record s { machine = after_step s.machine cpu; words = words_after_step s.machine s.words cpu })
+  pub steps : (reads : ℕ) → StepsWith s.shape (state_after reads s) (state_after reads (stepped s (actor.Cpu cpu)))
+  pub core : IsCore (stepped s (actor.Cpu cpu))
 
-pub nothing_past : (m : Machine) (cpu : ℕ) → length m.waiting ≤ cpu → refusal_of m cpu ≡ Some NoStep
-nothing_past m cpu past = rw (get_or_past m.waiting cpu nothing_waits past) refl
+pub nothing_past : (m : Machine) (scene : Scene) (cpu : ℕ) → length m.waiting ≤ cpu → refusal_of m scene cpu ≡ Some NoStep
+nothing_past m scene cpu past = rw (get_or_past m.waiting cpu nothing_waits past) refl
 
-pub gone : (s : CoreState) (cpu : ℕ) → IsCore s → refusal_of s.machine cpu ≡ None → Gone s cpu
+pub gone : (s : CoreState) (cpu : ℕ) → IsCore s → refused s (actor.Cpu cpu) ≡ None → Gone s cpu
 gone s cpu core none = elim (cases_lt cpu s.shape.cpus) [
-  | inl below ↦ let g = goes s cpu (waiting_at s.machine cpu).ops (waiting_at s.machine cpu).done core below refl none in record { leads = g.leads; core = g.core }
-  | inr past ↦ let bad = nothing_past s.machine cpu (omega (arith, core.machine.waiting)) in cc
+  | inl below ↦ let g = goes s cpu (waiting_at s.machine cpu).ops (waiting_at s.machine cpu).done core below refl none in record { steps = g.steps; core = g.core }
+  | inr past ↦ let bad = nothing_past s.machine (scene_at s.modules cpu) cpu (omega (arith, core.machine.waiting)) in cc
 ]
 
 -- what the next step reads and writes is there
@@ -184,79 +275,156 @@ done_below places hand (Close key) done under = under.within
 done_below places hand (Split key parts first) done under = under.within
 done_below places hand (Swap one two) done under = under.within
 done_below places hand (Trim key bytes) done under = under.within
+done_below places hand (Enter section) done under = under.within
+done_below places hand (Leave section) done under = under.within
+done_below places hand (Load section) done under = under.within
+done_below places hand (Unload section) done under = under.within
+done_below places hand Clean done under = under.within
 
-keys_fit : (kernel_len : ℕ) (op : Op) → IsOp kernel_len op → KeysFit op
+keys_fit : (sections : List Section) (op : Op) → IsOp sections op → KeysFit op
 keys_fit n (Open key section index size) is = is.key_below
 keys_fit n (Close key) is = is.key_below
 keys_fit n (Split key parts first) is = let two = is.two_parts in (is.key_below, omega arith, omega (arith, is.last_below))
 keys_fit n (Swap one two) is = (is.first.key_below, is.second.key_below)
 keys_fit n (Trim key bytes) is = is.key_below
+keys_fit n (Enter section) is = tt
+keys_fit n (Leave section) is = tt
+keys_fit n (Load section) is = tt
+keys_fit n (Unload section) is = tt
+keys_fit n Clean is = tt
 
-can_take_first : (kernel_len words : ℕ) (hand : Option Hand) (places : List Held) (op : Op) → IsOp kernel_len op → length places ≡ KEY_END → 2 * kernel_len ≤ words → CanTake (step_of op 0 hand places) hand words (length places)
-can_take_first n words hand places (Open key section index size) is len kernel = omega (arith, is.in_section)
-can_take_first n words hand places (Close key) is len kernel = omega (arith, is.key_below)
-can_take_first n words hand places (Split key parts first) is len kernel = omega (arith, is.key_below)
-can_take_first n words hand places (Swap one two) is len kernel = omega (arith, is.first.key_below)
-can_take_first n words hand places (Trim key bytes) is len kernel = omega (arith, is.key_below)
-
-can_take_next : (s : CoreState) (cpu : ℕ) (op : Op) (ops : List Op) (done : ℕ) → IsCore s → cpu < s.shape.cpus → IsReady s.kernel_len s.machine.places (hand_at s.machine cpu) (op ∷ ops) done
-    → CanTake (step_of op done (hand_at s.machine cpu) s.machine.places) (hand_at s.machine cpu) (length (words_at s.words cpu)) (length s.machine.places)
-can_take_next s cpu op ops done core below ready = elim (cases_eq done 0) [
-  | inl e ↦ rw e (can_take_first s.kernel_len (length (words_at s.words cpu)) (hand_at s.machine cpu) s.machine.places op ready.1 core.machine.places (omega (arith, core.own_words cpu below, core.kernel, core.shape.few_kernel_tags)))
-  | inr some ↦
-      let n = next_at s cpu op ops done core ready (λ e. absurd (some e)) in
-      can_take s.shape (length (words_at s.words cpu)) (length s.machine.places) (core.own_words cpu below) core.shape.few_kernel_tags
-      (step_of op done (hand_at s.machine cpu) s.machine.places) (hand_at s.machine cpu) s.machine.places refl
-      (λ h is. hand_seen s.shape s.machine s.words cpu h core.shape (core.machine.hands ∙ sym core.words) (omega (arith, core.machine.hands)) core.safe is)
-      n.ruled
-]
+sections_fit : (sections : List Section) (op : Op) → IsOp sections op → SectionsFit op (length sections)
+sections_fit n (Open key section index size) is = is.has_section
+sections_fit n (Close key) is = tt
+sections_fit n (Split key parts first) is = tt
+sections_fit n (Swap one two) is = tt
+sections_fit n (Trim key bytes) is = tt
+sections_fit n (Enter section) is = is.has_section
+sections_fit n (Leave section) is = is.has_section
+sections_fit n (Load section) is = tt
+sections_fit n (Unload section) is = tt
+sections_fit n Clean is = tt
 
 has_call : (s : CoreState) (cpu : ℕ) → IsCore s → cpu < s.shape.cpus → (hand : Option Hand) → hand_at s.machine cpu ≡ hand → HasCall hand
+unfolding state_with
 has_call s cpu core below None is = tt
-has_call s cpu core below (Some h) is = (hand_seen s.shape s.machine s.words cpu h core.shape (core.machine.hands ∙ sym core.words) (omega (arith, core.machine.hands)) core.safe is).fits.some
+has_call s cpu core below (Some h) is =
+    (hand_seen s.shape s.machine s.words (runs_of s.modules) (list_parts 0 [] s.modules.list) cpu h core.shape (core.machine.hands ∙ sym core.words) (omega (arith, core.machine.hands)) core.safe is).fits.some
 
-can_step : (s : CoreState) (cpu : ℕ) (ops : List Op) (done : ℕ) → IsCore s → cpu < s.shape.cpus → IsReady s.kernel_len s.machine.places (hand_at s.machine cpu) ops done → CanStep s.machine s.words cpu ops done
-can_step s cpu [] done core below ready = tt
-can_step s cpu (op ∷ ops) done core below ready =
-    (keys_fit s.kernel_len op ready.1, done_below s.machine.places (hand_at s.machine cpu) op done ready.0, has_call s cpu core below (hand_at s.machine cpu) refl, can_take_next s cpu op ops done core below ready)
+module _ (s : CoreState) (cpu : ℕ) (core : IsCore s) (below : cpu < s.shape.cpus) where
+  step_now : Op → ℕ → WordStep
+  step_now op done = step_of op done (hand_at s.machine cpu) s.machine.places (inside_at s.modules cpu)
 
-pub can_go : (s : CoreState) (cpu : ℕ) → IsCore s → CanGo s.machine s.words cpu
+  word_takes : (op : Op) (done : ℕ) → IsRuled s.shape (runs_in (inside_at s.modules cpu)) (step_of op done (hand_at s.machine cpu) s.machine.places (inside_at s.modules cpu)) (hand_at s.machine cpu) s.machine.places
+      → CanTake (step_of op done (hand_at s.machine cpu) s.machine.places (inside_at s.modules cpu)) (hand_at s.machine cpu) (length (words_at s.words cpu)) (length s.machine.places)
+  unfolding state_with
+  word_takes op done ruled =
+      can_take s.shape (length (words_at s.words cpu)) (length s.machine.places) (core.own_words cpu below) (runs_in (inside_at s.modules cpu))
+      (step_of op done (hand_at s.machine cpu) s.machine.places (inside_at s.modules cpu)) (hand_at s.machine cpu) s.machine.places refl
+      (λ h is. hand_seen s.shape s.machine s.words (runs_of s.modules) (list_parts 0 [] s.modules.list) cpu h core.shape (core.machine.hands ∙ sym core.words) (omega (arith, core.machine.hands)) core.safe is)
+      ruled
+
+  op_takes : (op : Op) (ops : List Op) (done : ℕ) → IsReady s.sections s.machine.places (hand_at s.machine cpu) (op ∷ ops) done
+      → Next s.shape s.sections (inside_at s.modules cpu) s.machine.places (hand_at s.machine cpu) op ops done
+      → CanTake (step_of op done (hand_at s.machine cpu) s.machine.places (inside_at s.modules cpu)) (hand_at s.machine cpu) (length (words_at s.words cpu)) (length s.machine.places)
+  op_takes (Open key section index size) ops done ready n = word_takes (Open key section index size) done n.ruled
+  op_takes (Close key) ops done ready n = word_takes (Close key) done n.ruled
+  op_takes (Split key parts first) ops done ready n = word_takes (Split key parts first) done n.ruled
+  op_takes (Swap one two) ops done ready n = word_takes (Swap one two) done n.ruled
+  op_takes (Trim key bytes) ops done ready n = word_takes (Trim key bytes) done n.ruled
+  op_takes (Enter section) ops done ready n = tt
+  op_takes (Leave section) ops done ready n = tt
+  op_takes (Load section) ops done ready n = tt
+  op_takes (Unload section) ops done ready n = tt
+  op_takes Clean ops done ready n = tt
+
+  fits_if : (b : Bool) (x y : WordStep) → ListFits x s.modules cpu → ListFits y s.modules cpu → ListFits (cond b x y) s.modules cpu
+  fits_if true x y h g = h
+  fits_if false x y h g = g
+
+  fits_share : (key : ℕ) (hand : Option Hand) → ListFits (share_step key hand) s.modules cpu
+  fits_share key None = tt
+  fits_share key (Some h) = tt
+
+  op_fits : (op : Op) (ops : List Op) (done : ℕ) → IsReady s.sections s.machine.places (hand_at s.machine cpu) (op ∷ ops) done
+      → (done ≡ 0 → first_refusal s.machine.places s.machine.waiting (scene_at s.modules cpu) op ≡ None)
+      → ListFits (step_of op done (hand_at s.machine cpu) s.machine.places (inside_at s.modules cpu)) s.modules cpu
+  op_fits (Open key section index size) ops done ready free = fits_if (done == 0) _ _ tt (fits_if (done == 1) _ _ tt tt)
+  op_fits (Close key) ops done ready free = fits_if (done == 0) _ _ tt (fits_if (done == 1) _ _ tt tt)
+  op_fits (Split key parts first) ops done ready free = fits_if (done == 0) _ _ tt (fits_if (nat_lt done parts) _ _ tt (fits_share (part_key key first (done - parts)) (hand_at s.machine cpu)))
+  op_fits (Swap one two) ops done ready free = fits_if (done == 0) _ _ tt (fits_if (done == 1) _ _ tt tt)
+  op_fits (Trim key bytes) ops done ready free = fits_if (done == 0) _ _ tt (fits_if (done == 1) _ _ tt tt)
+  op_fits (Enter section) ops done ready free = let first : done ≡ 0 = omega (arith, ready.0.within) in in_fits s core cpu below section ready.1.has_section (free first)
+  op_fits (Leave section) ops done ready free = let first : done ≡ 0 = omega (arith, ready.0.within) in out_fits s core cpu below section ready.1.has_section
+  op_fits (Load section) ops done ready free = tt
+  op_fits (Unload section) ops done ready free = tt
+  op_fits Clean ops done ready free = tt
+
+  tag_fits : (op : Op) → IsOp s.sections op → first_refusal s.machine.places s.machine.waiting (scene_at s.modules cpu) op ≡ None → TagFits op (inside_at s.modules cpu)
+  tag_fits (Open key section index size) is free =
+      let b = begins_in s core cpu below section index is.has_section is.in_section (running_first s.machine.places s.machine.waiting (inside_at s.modules cpu) key section free) in
+      omega (arith, b.1, core.shape.few_tags)
+  tag_fits (Close key) is free = tt
+  tag_fits (Split key parts first) is free = tt
+  tag_fits (Swap one two) is free = tt
+  tag_fits (Trim key bytes) is free = tt
+  tag_fits (Enter section) is free = tt
+  tag_fits (Leave section) is free = tt
+  tag_fits (Load section) is free = tt
+  tag_fits (Unload section) is free = tt
+  tag_fits Clean is free = tt
+
+  can_step : (ops : List Op) (done : ℕ) → IsReady s.sections s.machine.places (hand_at s.machine cpu) ops done → CanStep s.machine s.modules s.words cpu ops done
+  can_step [] done ready = tt
+  can_step (op ∷ ops) done ready = (
+    keys_fit s.sections op ready.1,
+    done_below s.machine.places (hand_at s.machine cpu) op done ready.0,
+    has_call s cpu core below (hand_at s.machine cpu) refl,
+    rw (core.modules.slots cpu below) (sections_fit s.sections op ready.1),
+    λ none.
+        let free = first_passes s.machine (scene_at s.modules cpu) op ops done none in
+        let n = next_at s cpu op ops done core below ready free in
+        (op_takes op ops done ready n, op_fits op ops done ready free, λ e. tag_fits op ready.1 (free e)),
+  )
+
+pub can_go : (s : CoreState) (cpu : ℕ) → IsCore s → CanGo s.machine s.modules s.words cpu
 can_go s cpu core = record {
   hands = core.machine.hands ∙ sym core.machine.waiting;
   places = core.machine.places;
   words = core.words ∙ sym core.machine.waiting;
+  inside = core.modules.cpus ∙ sym core.machine.waiting;
   step = λ below. let within : cpu < s.shape.cpus = omega (arith, core.machine.waiting) in
-      can_step s cpu (waiting_at s.machine cpu).ops (waiting_at s.machine cpu).done core within (core.machine.ready cpu within);
+      can_step s cpu core within (waiting_at s.machine cpu).ops (waiting_at s.machine cpu).done (core.machine.ready cpu within);
 }
 
 -- ---- what `go` leaves, by its answer
 
 -- what a step answers
-abbrev pub Answers : Option StepRefused → Result Event StepRefused → Type 0
-Answers o r = MatchOption o (r ≡ Ok Stepped) (λ e. r ≡ Err e)
+abbrev pub Answers : Option StepRefused → Event → Result Event StepRefused → Type 0
+Answers o event r = MatchOption o (r ≡ Ok event) (λ e. r ≡ Err e)
 
-pub result_none : (o : Option StepRefused) (e : Event) → Answers o (Ok e) → o ≡ None
-result_none None e h = refl
-result_none (Some r) e h = cc
+pub result_none : (o : Option StepRefused) (event e : Event) → Answers o event (Ok e) → o ≡ None
+result_none None event e h = refl
+result_none (Some r) event e h = cc
 
-pub refusal_none : (s : CoreState) (cpu : ℕ) (e : Event) → Answers (refusal_of s.machine cpu) (Ok e) → refusal_of s.machine cpu ≡ None
-refusal_none s cpu e h = result_none (refusal_of s.machine cpu) e h
+-- what a call left is what the CPU's step leaves, or what was there
+abbrev pub LeftOf : CoreState → ℕ → Machine → List (List ℕ) → ModuleTable → Result Event StepRefused → Type 0
+LeftOf s cpu m words ms r =
+    OnOk r ((m ≡ after_step s.machine (inside_at s.modules cpu) cpu) × (words ≡ words_after_step s.machine (inside_at s.modules cpu) s.words cpu) × (ms ≡ modules_after_step s.machine s.modules cpu))
 
-module _ (s : CoreState) (cpu : ℕ) (hands : List (Option Hand)) (places : List Held) (waiting : List Waiting) (words : List (List ℕ)) (core : IsCore s) where
-  pub core_after : (r : Result Event StepRefused) → Answers (refusal_of s.machine cpu) r
-      → OnOk r ((machine_of hands places waiting ≡ after_step s.machine cpu) × (words ≡ words_after_step s.machine s.words cpu))
-      → OnErr r ((hands ≡ s.machine.hands) × (places ≡ s.machine.places) × (waiting ≡ s.machine.waiting) × (words ≡ s.words))
-      → IsCore (record s { machine = machine_of hands places waiting; words = words })
+module _ (s : CoreState) (cpu : ℕ) (hands : List (Option Hand)) (places : List Held) (waiting : List Waiting) (words : List (List ℕ)) (ms : ModuleTable) (core : IsCore s) where
+  pub core_after : (r : Result Event StepRefused) → Answers (refused s (actor.Cpu cpu)) Stepped r → LeftOf s cpu (machine_of hands places waiting) words ms r
+      → OnErr r ((hands ≡ s.machine.hands) × (places ≡ s.machine.places) × (waiting ≡ s.machine.waiting) × (words ≡ s.words) × (ms ≡ s.modules))
+      → IsCore (record s { machine = machine_of hands places waiting; words = words; modules = ms })
   core_after (Ok e) answer ok err =
-      let g = gone s cpu core (refusal_none s cpu e answer) in
-      rw (ok.0, ok.1) g.core
-  core_after (Err e) answer ok err = rw (err.0, err.1, err.2, err.3) core
+      let g = gone s cpu core (result_none _ Stepped e answer) in
+      rw (ok.0, ok.1, ok.2) g.core
+  core_after (Err e) answer ok err = rw (err.0, err.1, err.2, err.3, err.4) core
 
-  pub row_after : (r : Result Event StepRefused) → Answers (refusal_of s.machine cpu) r
-      → OnOk r ((machine_of hands places waiting ≡ after_step s.machine cpu) × (words ≡ words_after_step s.machine s.words cpu))
-      → OnOk r (Steps s.shape (word_state s) (state_of (machine_of hands places waiting) words))
-  row_after (Ok e) answer ok = let g = gone s cpu core (refusal_none s cpu e answer) in rw (ok.0, ok.1) g.leads.steps
-  row_after (Err e) answer ok = tt
+  pub row_after : (reads : ℕ) (r : Result Event StepRefused) → Answers (refused s (actor.Cpu cpu)) Stepped r → LeftOf s cpu (machine_of hands places waiting) words ms r
+      → OnOk r (StepsWith s.shape (state_after reads s) (state_of reads (machine_of hands places waiting) words ms))
+  row_after reads (Ok e) answer ok = let g = gone s cpu core (result_none _ Stepped e answer) in rw (ok.0, ok.1, ok.2) (g.steps reads)
+  row_after reads (Err e) answer ok = tt
 
 -- a slice that is written whole
 pub written : {A : Type 0} → (n : ℕ) (new items : List A) → length new ≡ n → take n (new ++ drop (length new) items) ≡ new

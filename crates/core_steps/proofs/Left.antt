@@ -8,9 +8,12 @@ use Rattle.core_steps.specs.declared.op.Op.{Op}
 use Rattle.core_steps.specs.declared.op.Event.{Event}
 use Rattle.core_steps.specs.declared.op.StepRefused.{StepRefused}
 use Rattle.core_steps.specs.declared.op.StepRefused.TheVariants.{NoStep}
-use Rattle.core_steps.specs.Machine.{Machine, Waiting, nothing_waits, waiting_at, step_count, advanced, refusal_in, refusal_of, stepped_by, after_step}
-use Rattle.core_steps.specs.CoreState.{CoreState, IsCore, CanStep, words_after_step}
-use Rattle.core_steps.proofs.Kept.{Answers, can_go, refusal_none}
+use Rattle.core_steps.specs.Machine.{Machine, Waiting, nothing_waits, waiting_at, step_count, advanced, refusal_in, stepped_by, after_step}
+use Rattle.core_steps.specs.CoreState.{CoreState, IsCore, CanStep, refused}
+use Rattle.core_steps.specs.declared.op.Actor.TheVariants as actor
+use Rattle.core_steps.specs.declared.op.Event.TheVariants.{Stepped}
+use Rattle.core_steps.specs.Modules.{ModuleTable, inside_at, scene_at}
+use Rattle.core_steps.proofs.Kept.{Answers, LeftOf, can_go, result_none}
 use Rattle.core_steps.specs.StepsLeft.{cpu_steps_left}
 
 left_of : Waiting → ℕ
@@ -24,36 +27,36 @@ left_advanced op ops done within = let all = sum_by-cons step_count op ops in by
     by_test true e = let f : done + 1 ≡ step_count op = grind (arith, nat_tests) in rw e (omega (arith, sum_by-cons step_count op ops))
     by_test false e = rw e (omega (arith, sum_by-cons step_count op ops))
 
-left_stepped : (words : List (List ℕ)) (m : Machine) (cpu : ℕ) (ops : List Op) (done : ℕ) → cpu < length m.waiting → CanStep m words cpu ops done → refusal_in m ops done ≡ None
-    → left_of (record { ops = ops; done = done }) ≡ left_of (waiting_at (stepped_by m cpu ops done) cpu) + 1
-left_stepped words m cpu [] done below can none = cc
-left_stepped words m cpu (op ∷ ops) done below can none =
+left_stepped : (words : List (List ℕ)) (m : Machine) (ms : ModuleTable) (cpu : ℕ) (ops : List Op) (done : ℕ) → cpu < length m.waiting → CanStep m ms words cpu ops done → refusal_in m (scene_at ms cpu) ops done ≡ None
+    → left_of (record { ops = ops; done = done }) ≡ left_of (waiting_at (stepped_by m (inside_at ms cpu) cpu ops done) cpu) + 1
+left_stepped words m ms cpu [] done below can none = cc
+left_stepped words m ms cpu (op ∷ ops) done below can none =
     left_advanced op ops done can.1
     ∙ ap (λ (w : Waiting). left_of w + 1) (sym (get_or-set_same m.waiting cpu (advanced (op ∷ ops) done) nothing_waits below))
 
-left_after : (s : CoreState) (cpu : ℕ) → IsCore s → refusal_of s.machine cpu ≡ None → cpu_steps_left s.machine cpu ≡ cpu_steps_left (after_step s.machine cpu) cpu + 1
+left_after : (s : CoreState) (cpu : ℕ) → IsCore s → refused s (actor.Cpu cpu) ≡ None → cpu_steps_left s.machine cpu ≡ cpu_steps_left (after_step s.machine (inside_at s.modules cpu) cpu) cpu + 1
 unfolding left_of
 left_after s cpu core none = elim (cases_lt cpu (length s.machine.waiting)) [
-  | inl below ↦ left_stepped s.words s.machine cpu (waiting_at s.machine cpu).ops (waiting_at s.machine cpu).done below ((can_go s cpu core).step below) none
-  | inr past ↦ let bad : refusal_of s.machine cpu ≡ Some NoStep = rw (get_or_past s.machine.waiting cpu nothing_waits past) refl in cc
+  | inl below ↦ left_stepped s.words s.machine s.modules cpu (waiting_at s.machine cpu).ops (waiting_at s.machine cpu).done below ((can_go s cpu core).step below) none
+  | inr past ↦ let bad : refused s (actor.Cpu cpu) ≡ Some NoStep = rw (get_or_past s.machine.waiting cpu nothing_waits past) refl in cc
 ]
 
 -- what `go` leaves, by its answer
-pub left_lists : (s : CoreState) (cpu : ℕ) (m : Machine) (words : List (List ℕ)) (r : Result Event StepRefused) → IsCore s → Answers (refusal_of s.machine cpu) r
-    → OnOk r ((m ≡ after_step s.machine cpu) × (words ≡ words_after_step s.machine s.words cpu)) → OnOk r (cpu_steps_left s.machine cpu ≡ cpu_steps_left m cpu + 1)
-left_lists s cpu m words (Ok e) core answer ok = rw ok.0 (left_after s cpu core (refusal_none s cpu e answer))
-left_lists s cpu m words (Err e) core answer ok = tt
+pub left_lists : (s : CoreState) (cpu : ℕ) (m : Machine) (words : List (List ℕ)) (ms : ModuleTable) (r : Result Event StepRefused) → IsCore s → Answers (refused s (actor.Cpu cpu)) Stepped r
+    → LeftOf s cpu m words ms r → OnOk r (cpu_steps_left s.machine cpu ≡ cpu_steps_left m cpu + 1)
+left_lists s cpu m words ms (Ok e) core answer ok = rw ok.0 (left_after s cpu core (result_none _ Stepped e answer))
+left_lists s cpu m words ms (Err e) core answer ok = tt
 
-none_waits : (words : List (List ℕ)) (m : Machine) (cpu : ℕ) (ops : List Op) (done : ℕ) → CanStep m words cpu ops done → left_of (record { ops = ops; done = done }) ≡ 0 → ops ≡ []
+none_waits : (words : List (List ℕ)) (m : Machine) (ms : ModuleTable) (cpu : ℕ) (ops : List Op) (done : ℕ) → CanStep m ms words cpu ops done → left_of (record { ops = ops; done = done }) ≡ 0 → ops ≡ []
 unfolding left_of
-none_waits words m cpu [] done can h = refl
-none_waits words m cpu (op ∷ ops) done can h = absurd (omega (arith, sum_by-cons step_count op ops, can.1))
+none_waits words m ms cpu [] done can h = refl
+none_waits words m ms cpu (op ∷ ops) done can h = absurd (omega (arith, sum_by-cons step_count op ops, can.1))
 
 -- no step is left exactly where no op waits
 pub left_none : (s : CoreState) (cpu : ℕ) → IsCore s → cpu_steps_left s.machine cpu ≡ 0 → (waiting_at s.machine cpu).ops ≡ []
 unfolding left_of
 left_none s cpu core h = elim (cases_lt cpu (length s.machine.waiting)) [
-  | inl below ↦ none_waits s.words s.machine cpu (waiting_at s.machine cpu).ops (waiting_at s.machine cpu).done ((can_go s cpu core).step below) h
+  | inl below ↦ none_waits s.words s.machine s.modules cpu (waiting_at s.machine cpu).ops (waiting_at s.machine cpu).done ((can_go s cpu core).step below) h
   | inr past ↦ ap (λ (w : Waiting). w.ops) (get_or_past s.machine.waiting cpu nothing_waits past)
 ]
 

@@ -4,6 +4,9 @@ pub mod Takes
 pub mod Hands
 pub mod Splits
 pub mod Ready
+pub mod Loaded
+pub mod InsideFacts
+pub mod GoesIn
 pub mod Kept
 pub mod Queued
 pub mod Left

@@ -15,12 +15,14 @@ use Rattle.tag_model.specs.WordState.{word_place}
 use Rattle.core_steps.specs.declared.op.Op.{Op}
 use Rattle.core_steps.specs.declared.op.Actor.TheVariants as actor
 use Rattle.core_steps.specs.declared.step.WordStep.{WordStep}
-use Rattle.core_steps.specs.declared.step.WordStep.TheVariants.{BeginAllocation, AddBytes, AddCall, SubtractBytes, SubtractCall, Write}
-use Rattle.core_steps.specs.Machine.{Machine, Waiting, hand_at, waiting_at, step_of, words_after, moves_of, moves_in, moves_of_step, stepped_by, after_step, refusal_of, CanTake, HandInWords, raised_in_hand, move_in_hand, machine_of}
-use Rattle.core_steps.specs.CoreState.{CoreState, IsCore, words_at, words_stepped, words_after_step, stepped, fresh, fresh_machine, CanStep}
+use Rattle.core_steps.specs.declared.step.WordStep.TheVariants.{BeginAllocation, AddBytes, AddCall, SubtractBytes, SubtractCall, Write, GoIn, GoOut, Rest}
+use Rattle.core_steps.specs.Machine.{Machine, Waiting, hand_at, waiting_at, step_of, words_after, moves_of, moves_in, moves_of_step, after_step, refusal_in, CanTake}
+use Rattle.core_steps.specs.CoreState.{CoreState, IsCore, words_at, words_stepped, modules_after_step, refused, stepped, fresh, fresh_machine, fresh_modules, CanStep}
+use Rattle.core_steps.specs.Modules.{ModuleTable, inside_at, scene_at}
+use Rattle.tag_section.specs.Section.{Section}
 use Rattle.core_steps.specs.Moved.{kind_at, own_moved, words_moved, core_of, HasMoved, moved_on}
 use Rattle.core_steps.proofs.MovedWords.{moved_one}
-use Rattle.core_steps.proofs.Kept.{can_go, refusal_none, nothing_past, Answers}
+use Rattle.core_steps.proofs.Kept.{can_go, result_none, nothing_past, Answers, LeftOf}
 use Rattle.std.proofs.lemmas.Bool.{cases_lt}
 use Rattle.core_steps.specs.declared.op.Event.{Event}
 use Rattle.core_steps.specs.declared.op.Event.TheVariants.{Stepped}
@@ -68,27 +70,33 @@ module _ (cpus tags : ℕ) (moves : List Move) (cpu : ℕ) (below : cpu < cpus) 
   moved_step SubtractCall None places can = rw append-nil (sym (set-get_or (words_moved cpus tags moves) cpu []))
   moved_step SubtractCall (Some h) places can = moved_fall Calls h.tag.number 1 (omega (arith, can.0))
   moved_step (Write key held next) hand places can = rw append-nil (sym (set-get_or (words_moved cpus tags moves) cpu []))
+  moved_step (GoIn section) hand places can = rw append-nil (sym (set-get_or (words_moved cpus tags moves) cpu []))
+  moved_step (GoOut section) hand places can = rw append-nil (sym (set-get_or (words_moved cpus tags moves) cpu []))
+  moved_step Rest hand places can = rw append-nil (sym (set-get_or (words_moved cpus tags moves) cpu []))
 
-moved_in : (cpus tags : ℕ) (moves : List Move) (m : Machine) (cpu : ℕ) (ops : List Op) (done : ℕ) → cpu < cpus → length (words_at (words_moved cpus tags moves) cpu) ≡ 2 * tags
-    → CanStep m (words_moved cpus tags moves) cpu ops done → words_moved cpus tags (moves ++ moves_in m cpu ops done) ≡ words_stepped m (words_moved cpus tags moves) cpu ops done
-moved_in cpus tags moves m cpu [] done below len can = rw append-nil refl
-moved_in cpus tags moves m cpu (op ∷ ops) done below len can =
-    moved_step cpus tags moves cpu below (step_of op done (hand_at m cpu) m.places) (hand_at m cpu) (length m.places) (subst (λ (n : ℕ). CanTake (step_of op done (hand_at m cpu) m.places) (hand_at m cpu) n (length m.places)) len can.3)
+moved_in : (cpus tags : ℕ) (moves : List Move) (m : Machine) (ms : ModuleTable) (cpu : ℕ) (ops : List Op) (done : ℕ) → cpu < cpus → length (words_at (words_moved cpus tags moves) cpu) ≡ 2 * tags
+    → CanStep m ms (words_moved cpus tags moves) cpu ops done → refusal_in m (scene_at ms cpu) ops done ≡ None
+    → words_moved cpus tags (moves ++ moves_in m (inside_at ms cpu) cpu ops done) ≡ words_stepped m (inside_at ms cpu) (words_moved cpus tags moves) cpu ops done
+moved_in cpus tags moves m ms cpu [] done below len can none = cc
+moved_in cpus tags moves m ms cpu (op ∷ ops) done below len can none =
+    let inside = inside_at ms cpu in
+    moved_step cpus tags moves cpu below (step_of op done (hand_at m cpu) m.places inside) (hand_at m cpu) (length m.places)
+    (subst (λ (n : ℕ). CanTake (step_of op done (hand_at m cpu) m.places inside) (hand_at m cpu) n (length m.places)) len (can.4 none).0)
 
 -- a step of the CPU, with its moves
-pub core_of_step : (shape : Shape) (kernel_len : ℕ) (m : Machine) (moves : List Move) (cpu : ℕ) → IsCore (core_of shape kernel_len m moves) → cpu < shape.cpus
-    → stepped (core_of shape kernel_len m moves) (actor.Cpu cpu) ≡ core_of shape kernel_len (after_step m cpu) (moves ++ moves_of_step m cpu)
-core_of_step shape kernel_len m moves cpu core below =
-    let can = can_go (core_of shape kernel_len m moves) cpu core in
+pub core_of_step : (shape : Shape) (sections : List Section) (m : Machine) (ms : ModuleTable) (moves : List Move) (cpu : ℕ) → IsCore (core_of shape sections m ms moves) → cpu < shape.cpus → refused (core_of shape sections m ms moves) (actor.Cpu cpu) ≡ None
+    → stepped (core_of shape sections m ms moves) (actor.Cpu cpu) ≡ core_of shape sections (after_step m (inside_at ms cpu) cpu) (modules_after_step m ms cpu) (moves ++ moves_of_step m (inside_at ms cpu) cpu)
+core_of_step shape sections m ms moves cpu core below none =
+    let can = can_go (core_of shape sections m ms moves) cpu core in
     let in_range : cpu < length m.waiting = omega (arith, core.machine.waiting) in
-    ap (λ (w : List (List ℕ)). record { shape = shape; kernel_len = kernel_len; machine = after_step m cpu; words = w })
-    (sym (moved_in shape.cpus shape.tags moves m cpu (waiting_at m cpu).ops (waiting_at m cpu).done below (core.own_words cpu below) (can.step in_range)))
+    ap (λ (w : List (List ℕ)). record { shape = shape; sections = sections; machine = after_step m (inside_at ms cpu) cpu; words = w; modules = modules_after_step m ms cpu })
+    (sym (moved_in shape.cpus shape.tags moves m ms cpu (waiting_at m cpu).ops (waiting_at m cpu).done below (core.own_words cpu below) (can.step in_range) none))
 
 -- before the first move
-pub core_of_fresh : (shape : Shape) (kernel_len : ℕ) → fresh shape kernel_len ≡ core_of shape kernel_len (fresh_machine shape.cpus) []
+pub core_of_fresh : (shape : Shape) (sections : List Section) → fresh shape sections ≡ core_of shape sections (fresh_machine shape.cpus) (fresh_modules shape (length sections)) []
 unfolding words_moved
-core_of_fresh shape kernel_len =
-    ap (λ (w : List (List ℕ)). record { shape = shape; kernel_len = kernel_len; machine = fresh_machine shape.cpus; words = w })
+core_of_fresh shape sections =
+    ap (λ (w : List (List ℕ)). record { shape = shape; sections = sections; machine = fresh_machine shape.cpus; words = w; modules = fresh_modules shape (length sections) })
     (same_lists _ _ (rw (length-replicate, length-map-range_with_len) refl) (λ c d l.
     let below : c < shape.cpus = omega (arith, length-replicate shape.cpus (replicate {A = ℕ} (2 * shape.tags) 0)) in
     get_or-replicate shape.cpus c (replicate (2 * shape.tags) 0) d below
@@ -99,25 +107,22 @@ core_of_fresh shape kernel_len =
         let below : p < 2 * shape.tags = omega (arith, length-map-range_with_len (λ q. moved_word [] c (kind_at q) (q / 2)) 0 (2 * shape.tags)) in
         get_or-map-range_with_len (λ q. moved_word [] c (kind_at q) (q / 2)) 0 (2 * shape.tags) p p d below (omega arith) ∙ sym (get_or-replicate (2 * shape.tags) p 0 d below))
 
--- what `go` leaves, by its answer, where the words are the sums of moves
-pub moved_after : (s : CoreState) (cpu : ℕ) (next : CoreState) (r : Result Event StepRefused) (moves : List Move) → IsCore s → MatchOption (refusal_of s.machine cpu) (r ≡ Ok Stepped) (λ e. r ≡ Err e)
-    → OnOk r (next ≡ stepped s (actor.Cpu cpu)) → HasMoved s moves → OnOk r (next ≡ moved_on s (actor.Cpu cpu) moves)
-moved_after s cpu next (Err e) moves core answer ok has = tt
-moved_after s cpu next (Ok e) moves core answer ok has = elim (cases_lt cpu s.shape.cpus) [
+-- what a CPU's step leaves, where the words are the sums of moves
+pub moved_after : (s : CoreState) (cpu : ℕ) (moves : List Move) → IsCore s → refused s (actor.Cpu cpu) ≡ None → HasMoved s moves → stepped s (actor.Cpu cpu) ≡ moved_on s (actor.Cpu cpu) moves
+moved_after s cpu moves core none has = elim (cases_lt cpu s.shape.cpus) [
   | inl below ↦
-      ok ∙ ap (λ (x : CoreState). stepped x (actor.Cpu cpu)) has
-      ∙ core_of_step s.shape s.kernel_len s.machine moves cpu (subst IsCore has core) below
-  | inr past ↦ let none = refusal_none s cpu e answer in let bad = nothing_past s.machine cpu (omega (arith, core.machine.waiting)) in cc
+      ap (λ (x : CoreState). stepped x (actor.Cpu cpu)) has
+      ∙ core_of_step s.shape s.sections s.machine s.modules moves cpu (subst IsCore has core) below none
+  | inr past ↦ let bad = nothing_past s.machine (scene_at s.modules cpu) cpu (omega (arith, core.machine.waiting)) in cc
 ]
 
-pub moved_lists : (s : CoreState) (cpu : ℕ) (hands : List (Option Hand)) (places : List Held) (waiting : List Waiting) (words : List (List ℕ)) (r : Result Event StepRefused) (moves : List Move)
-    → IsCore s → Answers (refusal_of s.machine cpu) r
-    → OnOk r ((machine_of hands places waiting ≡ after_step s.machine cpu) × (words ≡ words_after_step s.machine s.words cpu))
-    → HasMoved s moves → OnOk r (record s { machine = machine_of hands places waiting; words = words } ≡ moved_on s (actor.Cpu cpu) moves)
-moved_lists s cpu hands places waiting words r moves core answer ok has =
-    moved_after s cpu (record s { machine = machine_of hands places waiting; words = words }) r moves core answer (both r ok) has
-  where
-    both : (q : Result Event StepRefused) → OnOk q ((machine_of hands places waiting ≡ after_step s.machine cpu) × (words ≡ words_after_step s.machine s.words cpu))
-        → OnOk q (record s { machine = machine_of hands places waiting; words = words } ≡ stepped s (actor.Cpu cpu))
-    both (Ok e) f = ap (λ (m : Machine). record s { machine = m; words = words }) f.0 ∙ ap (λ (w : List (List ℕ)). record s { machine = after_step s.machine cpu; words = w }) f.1
-    both (Err e) f = tt
+-- what the manager's step leaves
+pub managed_after : (s : CoreState) (moves : List Move) → HasMoved s moves → stepped s actor.Manager ≡ moved_on s actor.Manager moves
+managed_after s moves has = ap (λ (x : CoreState). stepped x actor.Manager) has
+
+-- what `go` leaves, by its answer
+pub moved_lists : (s : CoreState) (cpu : ℕ) (m : Machine) (words : List (List ℕ)) (ms : ModuleTable) (r : Result Event StepRefused) (moves : List Move)
+    → IsCore s → Answers (refused s (actor.Cpu cpu)) Stepped r → LeftOf s cpu m words ms r
+    → HasMoved s moves → OnOk r (record s { machine = m; words = words; modules = ms } ≡ moved_on s (actor.Cpu cpu) moves)
+moved_lists s cpu m words ms (Ok e) moves core answer ok has = rw (ok.0, ok.1, ok.2) (moved_after s cpu moves core (result_none _ Stepped e answer) has)
+moved_lists s cpu m words ms (Err e) moves core answer ok has = tt

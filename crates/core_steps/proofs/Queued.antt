@@ -7,24 +7,25 @@ use Rattle.std.specs.List.{AllByRecursion}
 use Rattle.tag_model.specs.declared.state.Hand.{Hand}
 use Rattle.tag_model.specs.declared.state.Held.{Held}
 use Rattle.core_steps.specs.declared.op.Op.{Op}
+use Rattle.tag_section.specs.Section.{Section}
 use Rattle.core_steps.specs.Machine.{Waiting, Machine, nothing_waits, reserves, hand_at, waiting_at}
-use Rattle.core_steps.specs.CoreState.{CoreState, IsReady, IsReadyAt, IsCore, IsOp, with_op, state_of}
+use Rattle.core_steps.specs.CoreState.{CoreState, IsReady, IsReadyAt, IsCore, IsOp, with_op, state_with}
 use Rattle.core_steps.proofs.Ready.{ready_first}
 
-all_queued : (n : ℕ) (ops : List Op) (op : Op) → AllByRecursion (IsOp n) ops → IsOp n op → AllByRecursion (IsOp n) (ops ++ op ∷ [])
+all_queued : (n : List Section) (ops : List Op) (op : Op) → AllByRecursion (IsOp n) ops → IsOp n op → AllByRecursion (IsOp n) (ops ++ op ∷ [])
 all_queued n [] op all is = (is, tt)
 all_queued n (x ∷ ops) op all is = (all.0, all_queued n ops op all.1 is)
 
-ready_queued : (n : ℕ) (places : List Held) (hand : Option Hand) (ops : List Op) (done : ℕ) (op : Op) → IsReady n places hand ops done → IsOp n op → IsReady n places hand (ops ++ op ∷ []) done
+ready_queued : (n : List Section) (places : List Held) (hand : Option Hand) (ops : List Op) (done : ℕ) (op : Op) → IsReady n places hand ops done → IsOp n op → IsReady n places hand (ops ++ op ∷ []) done
 ready_queued n places hand [] done op ready is = rw (ready.0, ready.1) (ready_first n places (op ∷ []) (is, tt))
 ready_queued n places hand (x ∷ ops) done op ready is = (ready.0, ready.1, all_queued n ops op ready.2 is)
 
-reserves_queued : (n key : ℕ) (places : List Held) (hand : Option Hand) (ops : List Op) (done : ℕ) (op : Op) → IsReady n places hand ops done
+reserves_queued : (n : List Section) (key : ℕ) (places : List Held) (hand : Option Hand) (ops : List Op) (done : ℕ) (op : Op) → IsReady n places hand ops done
     → reserves key (record { ops = ops ++ op ∷ []; done = done }) ≡ true → reserves key (record { ops = ops; done = done }) ≡ true
 reserves_queued n key places hand [] done op ready h = let none = ready.1 in grind (arith, nat_tests)
 reserves_queued n key places hand (x ∷ ops) done op ready h = h
 
-module _ (s : CoreState) (cpu : ℕ) (op : Op) (core : IsCore s) (below : cpu < s.shape.cpus) (is : IsOp s.kernel_len op) where
+module _ (s : CoreState) (cpu : ℕ) (op : Op) (core : IsCore s) (below : cpu < s.shape.cpus) (is : IsOp s.sections op) where
   m : Machine
   m = s.machine
 
@@ -39,28 +40,28 @@ module _ (s : CoreState) (cpu : ℕ) (op : Op) (core : IsCore s) (below : cpu < 
   unfolding next
   there j ne = get_or-set_other s.machine.waiting cpu j (with_op (waiting_at s.machine cpu) op) nothing_waits ne
 
-  ready : (j : ℕ) → j < s.shape.cpus → IsReadyAt s.kernel_len next j
+  ready : (j : ℕ) → j < s.shape.cpus → IsReadyAt s.sections next j
   unfolding next
   ready j within = elim (cases_eq j cpu) [
-    | inl e ↦ subst (IsReadyAt s.kernel_len next) (sym e)
-        (subst (λ (w : Waiting). IsReady s.kernel_len s.machine.places (hand_at s.machine cpu) w.ops w.done) (sym here)
-        (ready_queued s.kernel_len s.machine.places (hand_at s.machine cpu) (waiting_at s.machine cpu).ops (waiting_at s.machine cpu).done op (core.machine.ready cpu below) is))
-    | inr ne ↦ subst (λ (w : Waiting). IsReady s.kernel_len s.machine.places (hand_at s.machine j) w.ops w.done) (sym (there j ne)) (core.machine.ready j within)
+    | inl e ↦ subst (IsReadyAt s.sections next) (sym e)
+        (subst (λ (w : Waiting). IsReady s.sections s.machine.places (hand_at s.machine cpu) w.ops w.done) (sym here)
+        (ready_queued s.sections s.machine.places (hand_at s.machine cpu) (waiting_at s.machine cpu).ops (waiting_at s.machine cpu).done op (core.machine.ready cpu below) is))
+    | inr ne ↦ subst (λ (w : Waiting). IsReady s.sections s.machine.places (hand_at s.machine j) w.ops w.done) (sym (there j ne)) (core.machine.ready j within)
   ]
 
   reserved : (j key : ℕ) → j < s.shape.cpus → reserves key (waiting_at next j) ≡ true → reserves key (waiting_at s.machine j) ≡ true
   reserved j key within h = elim (cases_eq j cpu) [
     | inl e ↦ subst (λ (i : ℕ). reserves key (waiting_at s.machine i) ≡ true) (sym e)
-        (reserves_queued s.kernel_len key s.machine.places (hand_at s.machine cpu) (waiting_at s.machine cpu).ops (waiting_at s.machine cpu).done op (core.machine.ready cpu below)
+        (reserves_queued s.sections key s.machine.places (hand_at s.machine cpu) (waiting_at s.machine cpu).ops (waiting_at s.machine cpu).done op (core.machine.ready cpu below)
         (subst (λ (w : Waiting). reserves key w ≡ true) (ap (waiting_at next) e ∙ here) h))
     | inr ne ↦ subst (λ (w : Waiting). reserves key w ≡ true) (there j ne) h
   ]
 
   core_queued : IsCore (record s { machine = record s.machine { waiting = set s.machine.waiting cpu (with_op (waiting_at s.machine cpu) op) } })
-  unfolding state_of next
+  unfolding state_with next
   core_queued = record {
     shape = core.shape;
-    kernel = core.kernel;
+    sections = core.sections;
     machine = record {
       hands = core.machine.hands;
       waiting = length-set s.machine.waiting cpu (with_op (waiting_at s.machine cpu) op) ∙ core.machine.waiting;
@@ -70,6 +71,7 @@ module _ (s : CoreState) (cpu : ℕ) (op : Op) (core : IsCore s) (below : cpu < 
     };
     words = core.words;
     own_words = core.own_words;
+    modules = core.modules;
     safe = core.safe;
   }
 

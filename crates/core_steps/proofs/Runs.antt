@@ -17,6 +17,7 @@ pub record Ran (s : CoreState) (actors : List Actor) (now : CoreState) (n : ℕ)
 
 pub stepped_shape : (s : CoreState) (a : Actor) → (stepped s a).shape ≡ s.shape
 stepped_shape s (actor.Cpu cpu) = refl
+stepped_shape s actor.Manager = refl
 
 pub run_shape : (s : CoreState) (actors : List Actor) → (run_of s actors).shape ≡ s.shape
 run_shape s [] = refl

@@ -16,12 +16,15 @@ use Rattle.tag_model.specs.Laws.{live_of}
 use Rattle.tag_model.specs.Reference.{amount, hand_counts, held_counts, live_total}
 use Rattle.tag_model.proofs.PlaceRow.{counts_stay}
 use Rattle.core_steps.specs.declared.op.Op.{Op}
-use Rattle.core_steps.specs.declared.op.Op.TheVariants.{Open, Close, Split, Swap, Trim}
+use Rattle.core_steps.specs.declared.op.Op.TheVariants.{Open, Close, Split, Swap, Trim, Enter, Leave, Load, Unload, Clean}
+use Rattle.tag_section.specs.Section.{Section}
+use Rattle.tag_model.specs.declared.state.Run.{Run}
+use Rattle.core_steps.specs.Modules.{inside_at, scene_at}
 use Rattle.core_steps.specs.declared.op.Actor.TheVariants as actor
 use Rattle.core_steps.specs.declared.step.WordStep.{WordStep}
 use Rattle.core_steps.specs.declared.step.WordStep.TheVariants.{AddCall, Write}
 use Rattle.core_steps.specs.Machine.{Waiting, Machine, waiting_at, hand_at, held_at, in_hand, is_counted, part_key, clear_step, step_of, hand_after, places_after, with_call, moves_in, moves_of, moves_of_step}
-use Rattle.core_steps.specs.CoreState.{CoreState, IsCore, IsReady, settled_hand, stepped, word_state}
+use Rattle.core_steps.specs.CoreState.{CoreState, IsCore, IsReady, runs_in, settled_hand, stepped, word_state}
 use Rattle.core_steps.specs.Laws.{Begins, waits_for, after_steps, moves_of_run, call_move}
 use Rattle.core_steps.proofs.Takes.{IsRuled}
 use Rattle.core_steps.proofs.Splits.{rest_hand, share_written, split_passes}
@@ -39,18 +42,23 @@ abbrev call_counts : Kind → ℕ → Tag → ℕ
 call_counts kind t tag = cond (tag.number == t) (amount kind 0 1) 0
 
 -- a CPU that isn't in an op has no hand
-free_hand : (n : ℕ) (places : List Held) (hand : Option Hand) (ops : List Op) → IsReady n places hand ops 0 → hand ≡ None
+free_hand : (n : List Section) (places : List Held) (hand : Option Hand) (ops : List Op) → IsReady n places hand ops 0 → hand ≡ None
 free_hand n places hand [] r = r.0
 free_hand n places hand (Open key section index size ∷ ops) r = r.0.start refl
 free_hand n places hand (Close key ∷ ops) r = r.0.start refl
 free_hand n places hand (Split key parts first ∷ ops) r = r.0.start refl
 free_hand n places hand (Swap one two ∷ ops) r = r.0.start refl
 free_hand n places hand (Trim key bytes ∷ ops) r = r.0.start refl
+free_hand n places hand (Enter section ∷ ops) r = r.0.start refl
+free_hand n places hand (Leave section ∷ ops) r = r.0.start refl
+free_hand n places hand (Load section ∷ ops) r = r.0.start refl
+free_hand n places hand (Unload section ∷ ops) r = r.0.start refl
+free_hand n places hand (Clean ∷ ops) r = r.0.start refl
 
 -- a write keeps the balance
-write_keeps : (k : Shape) (kind : Kind) (t key : ℕ) (hand next : Option Hand) (places : List Held) (will : Held) → IsRuled k (Write key will next) hand places
+write_keeps : (k : Shape) (runs : List Run) (kind : Kind) (t key : ℕ) (hand next : Option Hand) (places : List Held) (will : Held) → IsRuled k runs (Write key will next) hand places
     → hand_counts kind t next + sum_by (held_counts kind t) (set places key will) ≡ hand_counts kind t hand + sum_by (held_counts kind t) places
-write_keeps k kind t key hand next places will r =
+write_keeps k runs kind t key hand next places will r =
     omega (arith, counts_stay hand next (held_at places key) will r.1.stays kind t, sum_by-set (held_counts kind t) places key will held.None r.0)
 
 call_adds : (kind : Kind) (b : Bool) (bytes calls : ℕ) → cond b (amount kind bytes (calls + 1)) 0 ≡ cond b (amount kind bytes calls) 0 + cond b (amount kind 0 1) 0
@@ -64,7 +72,7 @@ IsTagged tag hand = (h : Hand) → hand ≡ Some h → h.tag ≡ tag
 
 -- a step of a split behind its first
 record SplitStep (s : CoreState) (cpu parts done : ℕ) (tag : Tag) : Type 0 where
-  moves : moves_of_step s.machine cpu ≡ cond (nat_lt done parts) (call_move cpu tag ∷ []) []
+  moves : moves_of_step s.machine (inside_at s.modules cpu) cpu ≡ cond (nat_lt done parts) (call_move cpu tag ∷ []) []
   counts : (kind : Kind) (t : ℕ) → balance kind t cpu (stepped s (actor.Cpu cpu)) ≡ balance kind t cpu s + cond (nat_lt done parts) 1 0 * call_counts kind t tag
   tagged : IsTagged tag (hand_at (stepped s (actor.Cpu cpu)).machine cpu)
 
@@ -75,27 +83,27 @@ rest_tagged tag size left h is = go (left == 1) is
     go true e = cc
     go false e = cc
 
-moves_known : (m : Machine) (cpu : ℕ) (op : Op) (ops : List Op) (done : ℕ) (step : WordStep) (hand : Option Hand) → waiting_at m cpu ≡ waits_for op ops done → step_of op done (hand_at m cpu) m.places ≡ step → hand_at m cpu ≡ hand
-    → moves_of_step m cpu ≡ moves_of cpu step hand
-moves_known m cpu op ops done step hand waits is held =
-    ap (λ (w : Waiting). moves_in m cpu w.ops w.done) waits ∙ ap (λ (x : WordStep). moves_of cpu x (hand_at m cpu)) is ∙ ap (moves_of cpu step) held
+moves_known : (m : Machine) (inside : List (Option Run)) (cpu : ℕ) (op : Op) (ops : List Op) (done : ℕ) (step : WordStep) (hand : Option Hand) → waiting_at m cpu ≡ waits_for op ops done → step_of op done (hand_at m cpu) m.places inside ≡ step → hand_at m cpu ≡ hand
+    → moves_of_step m inside cpu ≡ moves_of cpu step hand
+moves_known m inside cpu op ops done step hand waits is held =
+    ap (λ (w : Waiting). moves_in m inside cpu w.ops w.done) waits ∙ ap (λ (x : WordStep). moves_of cpu x (hand_at m cpu)) is ∙ ap (moves_of cpu step) held
 
 module _ (s : CoreState) (cpu key parts first done : ℕ) (ops : List Op) (tag : Tag) (waits : waiting_at s.machine cpu ≡ waits_for (Split key parts first) ops done)
     (t : Stepped s cpu (Split key parts first) ops done) where
   -- the step is known
-  known_hand : (step : WordStep) → step_of (Split key parts first) done (hand_at s.machine cpu) s.machine.places ≡ step → hand_at (stepped s (actor.Cpu cpu)).machine cpu ≡ hand_after step (hand_at s.machine cpu)
+  known_hand : (step : WordStep) → step_of (Split key parts first) done (hand_at s.machine cpu) s.machine.places (inside_at s.modules cpu) ≡ step → hand_at (stepped s (actor.Cpu cpu)).machine cpu ≡ hand_after step (hand_at s.machine cpu)
   known_hand step is = t.hand ∙ ap (λ (x : WordStep). hand_after x (hand_at s.machine cpu)) is
 
-  known_places : (step : WordStep) → step_of (Split key parts first) done (hand_at s.machine cpu) s.machine.places ≡ step → (stepped s (actor.Cpu cpu)).machine.places ≡ places_after step s.machine.places
+  known_places : (step : WordStep) → step_of (Split key parts first) done (hand_at s.machine cpu) s.machine.places (inside_at s.modules cpu) ≡ step → (stepped s (actor.Cpu cpu)).machine.places ≡ places_after step s.machine.places
   known_places step is = t.places ∙ ap (λ (x : WordStep). places_after x s.machine.places) is
 
-  written : (at : ℕ) (will : Held) (next : Option Hand) → step_of (Split key parts first) done (hand_at s.machine cpu) s.machine.places ≡ Write at will next
+  written : (at : ℕ) (will : Held) (next : Option Hand) → step_of (Split key parts first) done (hand_at s.machine cpu) s.machine.places (inside_at s.modules cpu) ≡ Write at will next
       → (kind : Kind) (u : ℕ) → balance kind u cpu (stepped s (actor.Cpu cpu)) ≡ balance kind u cpu s
   unfolding balance
   written at will next is kind u =
       let hands = ap (hand_counts kind u) (known_hand (Write at will next) is) in
       let places = ap (λ (xs : List Held). sum_by (held_counts kind u) xs) (known_places (Write at will next) is) in
-      let kept = write_keeps s.shape kind u at (hand_at s.machine cpu) next s.machine.places will (subst (λ (x : WordStep). IsRuled s.shape x (hand_at s.machine cpu) s.machine.places) is t.next.ruled) in
+      let kept = write_keeps s.shape (runs_in (inside_at s.modules cpu)) kind u at (hand_at s.machine cpu) next s.machine.places will (subst (λ (x : WordStep). IsRuled s.shape (runs_in (inside_at s.modules cpu)) x (hand_at s.machine cpu) s.machine.places) is t.next.ruled) in
       omega arith
 
   adds : 0 < done → done < parts → IsTagged tag (hand_at s.machine cpu) → SplitStep s cpu parts done tag
@@ -103,12 +111,12 @@ module _ (s : CoreState) (cpu key parts first done : ℕ) (ops : List Op) (tag :
   adds some more tagged =
       let r = t.ready.0.counting some (omega arith) in
       let same : r.tag ≡ tag = tagged (record { tag = r.tag; bytes = parts * r.size; calls = done; opening = false }) r.held in
-      let is : step_of (Split key parts first) done (hand_at s.machine cpu) s.machine.places ≡ AddCall =
+      let is : step_of (Split key parts first) done (hand_at s.machine cpu) s.machine.places (inside_at s.modules cpu) ≡ AddCall =
       let z : (done == 0) ≡ false = grind (arith, nat_tests) in let l : nat_lt done parts ≡ true = grind (arith, nat_tests) in rw (z, l) refl in
       let l : nat_lt done parts ≡ true = grind (arith, nat_tests) in
       let after = known_hand AddCall is ∙ ap with_call r.held in
       record {
-        moves = moves_known s.machine cpu (Split key parts first) ops done AddCall (settled_hand r.tag (parts * r.size) done) waits is r.held ∙ rw (l, same) refl;
+        moves = moves_known s.machine (inside_at s.modules cpu) cpu (Split key parts first) ops done AddCall (settled_hand r.tag (parts * r.size) done) waits is r.held ∙ rw (l, same) refl;
         counts = λ kind u.
             let hand = ap (hand_counts kind u) r.held in
             let next = ap (hand_counts kind u) after in
@@ -128,10 +136,10 @@ module _ (s : CoreState) (cpu key parts first done : ℕ) (ops : List Op) (tag :
       let at = part_key key first (done - parts) in
       let same : r.tag ≡ tag = tagged (record { tag = r.tag; bytes = left * r.size; calls = left; opening = false }) r.held in
       let l : nat_lt done parts ≡ false = grind (arith, nat_tests) in
-      let is : step_of (Split key parts first) done (hand_at s.machine cpu) s.machine.places ≡ Write at (held.Counted r.tag r.size) (rest_hand r.tag r.size left) =
+      let is : step_of (Split key parts first) done (hand_at s.machine cpu) s.machine.places (inside_at s.modules cpu) ≡ Write at (held.Counted r.tag r.size) (rest_hand r.tag r.size left) =
       let z : (done == 0) ≡ false = grind (arith, nat_tests) in rw (z, l) (share_written at left (hand_at s.machine cpu) r (omega arith)) in
       record {
-        moves = moves_known s.machine cpu (Split key parts first) ops done (Write at (held.Counted r.tag r.size) (rest_hand r.tag r.size left)) (hand_at s.machine cpu) waits is refl ∙ rw l refl;
+        moves = moves_known s.machine (inside_at s.modules cpu) cpu (Split key parts first) ops done (Write at (held.Counted r.tag r.size) (rest_hand r.tag r.size left)) (hand_at s.machine cpu) waits is refl ∙ rw l refl;
         counts = λ kind u. let kept = written at (held.Counted r.tag r.size) (rest_hand r.tag r.size left) is kind u in rw l (omega arith);
         tagged = λ h has. rest_tagged r.tag r.size left h (sym (known_hand (Write at (held.Counted r.tag r.size) (rest_hand r.tag r.size left)) is) ∙ has) ∙ same;
       }
@@ -139,16 +147,16 @@ module _ (s : CoreState) (cpu key parts first done : ℕ) (ops : List Op) (tag :
   later : 0 < done → IsTagged tag (hand_at s.machine cpu) → SplitStep s cpu parts done tag
   later some tagged = elim (cases_lt done parts) [ inl more ↦ adds some more tagged | inr past ↦ writes past tagged ]
 
-pub first_moves : (s : CoreState) (cpu key parts first : ℕ) (ops : List Op) → waiting_at s.machine cpu ≡ waits_for (Split key parts first) ops 0 → moves_of_step s.machine cpu ≡ []
-first_moves s cpu key parts first ops waits = moves_known s.machine cpu (Split key parts first) ops 0 (clear_step key s.machine.places) (hand_at s.machine cpu) waits refl refl
+pub first_moves : (s : CoreState) (cpu key parts first : ℕ) (ops : List Op) → waiting_at s.machine cpu ≡ waits_for (Split key parts first) ops 0 → moves_of_step s.machine (inside_at s.modules cpu) cpu ≡ []
+first_moves s cpu key parts first ops waits = moves_known s.machine (inside_at s.modules cpu) cpu (Split key parts first) ops 0 (clear_step key s.machine.places) (hand_at s.machine cpu) waits refl refl
 
 pub later_moves : (s : CoreState) (cpu key parts first done : ℕ) (hand : Hand) (ops : List Op) → IsCore s → waiting_at s.machine cpu ≡ waits_for (Split key parts first) ops done → hand_at s.machine cpu ≡ Some hand
-    → moves_of_step s.machine cpu ≡ cond (nat_lt done parts) (call_move cpu hand.tag ∷ []) []
+    → moves_of_step s.machine (inside_at s.modules cpu) cpu ≡ cond (nat_lt done parts) (call_move cpu hand.tag ∷ []) []
 later_moves s cpu key parts first done hand ops core waits held =
     let below = waits_below s.machine cpu (Split key parts first) ops done waits in
     let ready = ready_at s cpu (Split key parts first ∷ ops) done core (omega (arith, core.machine.waiting)) waits in
     let later_on : done ≢ 0 = λ e. let none : hand_at s.machine cpu ≡ None = ready.0.start e in cc in
-    let t = takes_step s cpu (Split key parts first) ops done core waits (later_free s.machine (Split key parts first) ops done later_on) in
+    let t = takes_step s cpu (Split key parts first) ops done core waits (later_free s.machine (scene_at s.modules cpu) (Split key parts first) ops done later_on) in
     (later s cpu key parts first done ops hand.tag waits t (omega arith) (λ h has. let e : hand ≡ h = cc in ap (λ (x : Hand). x.tag) (sym e))).moves
 
 -- ---- the rest of a split
@@ -177,21 +185,21 @@ counts_more parts done was now end each first then = elim (cases_lt done parts) 
 split_rest : (left : ℕ) (s : CoreState) (cpu key parts first done : ℕ) (ops : List Op) (tag : Tag) → IsCore s → waiting_at s.machine cpu ≡ waits_for (Split key parts first) ops done → 0 < done → 2 ≤ parts
     → done + suc left ≡ 2 * parts → IsTagged tag (hand_at s.machine cpu) → SplitRest s cpu parts done (suc left) ops tag
 split_rest zero s cpu key parts first done ops tag core waits some two all tagged =
-    let t = takes_step s cpu (Split key parts first) ops done core waits (later_free s.machine (Split key parts first) ops done (omega arith)) in
+    let t = takes_step s cpu (Split key parts first) ops done core waits (later_free s.machine (scene_at s.modules cpu) (Split key parts first) ops done (omega arith)) in
     let step = later s cpu key parts first done ops tag waits t some tagged in
     let none : parts - (done + 1) ≡ 0 = omega arith in
     record {
-      moves = moves_more cpu parts done tag (moves_of_step s.machine cpu) [] step.moves (rw none refl);
+      moves = moves_more cpu parts done tag (moves_of_step s.machine (inside_at s.modules cpu) cpu) [] step.moves (rw none refl);
       counts = λ kind u. counts_more parts done (balance kind u cpu s) (balance kind u cpu (stepped s (actor.Cpu cpu))) (balance kind u cpu (stepped s (actor.Cpu cpu))) (call_counts kind u tag) (step.counts kind u) (rw none (omega arith));
       core = t.core;
       waits = t.waits ∙ ends (Split key parts first) ops done (omega arith);
     }
 split_rest (suc left) s cpu key parts first done ops tag core waits some two all tagged =
-    let t = takes_step s cpu (Split key parts first) ops done core waits (later_free s.machine (Split key parts first) ops done (omega arith)) in
+    let t = takes_step s cpu (Split key parts first) ops done core waits (later_free s.machine (scene_at s.modules cpu) (Split key parts first) ops done (omega arith)) in
     let step = later s cpu key parts first done ops tag waits t some tagged in
     let rest = split_rest left (stepped s (actor.Cpu cpu)) cpu key parts first (done + 1) ops tag t.core (t.waits ∙ goes_on (Split key parts first) ops done (omega arith)) (omega arith) two (omega arith) step.tagged in
     record {
-      moves = moves_more cpu parts done tag (moves_of_step s.machine cpu) (moves_of_run (stepped s (actor.Cpu cpu)) (replicate (suc left) (actor.Cpu cpu))) step.moves rest.moves;
+      moves = moves_more cpu parts done tag (moves_of_step s.machine (inside_at s.modules cpu) cpu) (moves_of_run (stepped s (actor.Cpu cpu)) (replicate (suc left) (actor.Cpu cpu))) step.moves rest.moves;
       counts = λ kind u. counts_more parts done (balance kind u cpu s) (balance kind u cpu (stepped s (actor.Cpu cpu))) (balance kind u cpu (after_steps (stepped s (actor.Cpu cpu)) cpu (suc left))) (call_counts kind u tag) (step.counts kind u) (rest.counts kind u);
       core = rest.core;
       waits = rest.waits;
@@ -213,7 +221,7 @@ no_hand_balance s cpu kind t free = let e = ap (hand_counts kind t) free in omeg
 
 whole : (s : CoreState) (cpu key parts first size : ℕ) (tag : Tag) (ops : List Op) → IsCore s → Begins s cpu (Split key parts first) ops → held_at s.machine.places key ≡ held.Counted tag size → Whole s cpu parts tag
 whole s cpu key parts first size tag ops core b is =
-    let t = takes_step s cpu (Split key parts first) ops 0 core b.waits (in_free s.machine cpu (Split key parts first) ops 0 b.waits b.free) in
+    let t = takes_step s cpu (Split key parts first) ops 0 core b.waits (in_free s.machine (scene_at s.modules cpu) cpu (Split key parts first) ops 0 b.waits b.free) in
     let two = t.ready.1.two_parts in
     let left = 2 * parts - 2 in
     let all : 2 * parts ≡ suc (suc left) = omega arith in
@@ -222,13 +230,13 @@ whole s cpu key parts first size tag ops core b is =
     let tagged : IsTagged tag (hand_at after.machine cpu) =
     λ h has. taken_tag tag size (held_at s.machine.places key) is h (sym (known_hand s cpu key parts first 0 ops tag b.waits t clear refl) ∙ has) in
     let rest = split_rest left after cpu key parts first 1 ops tag t.core (t.waits ∙ goes_on (Split key parts first) ops 0 (omega arith)) (omega arith) two (omega arith) tagged in
-    let none : moves_of_step s.machine cpu ≡ [] = moves_known s.machine cpu (Split key parts first) ops 0 clear (hand_at s.machine cpu) b.waits refl refl in
+    let none : moves_of_step s.machine (inside_at s.modules cpu) cpu ≡ [] = moves_known s.machine (inside_at s.modules cpu) cpu (Split key parts first) ops 0 clear (hand_at s.machine cpu) b.waits refl refl in
     let below = waits_below s.machine cpu (Split key parts first) ops 0 b.waits in
     let end = after_steps after cpu (suc left) in
     let same_shape : end.shape ≡ s.shape = run_shape after (replicate (suc left) (actor.Cpu cpu)) ∙ stepped_shape s (actor.Cpu cpu) in
     let within : cpu < end.shape.cpus = let c = ap (λ (k : Shape). k.cpus) same_shape in omega (arith, core.machine.waiting) in
-    let first_free = free_hand s.kernel_len s.machine.places (hand_at s.machine cpu) (Split key parts first ∷ ops) t.ready in
-    let last_free = free_hand end.kernel_len end.machine.places (hand_at end.machine cpu) ops (ready_at end cpu ops 0 rest.core within rest.waits) in
+    let first_free = free_hand s.sections s.machine.places (hand_at s.machine cpu) (Split key parts first ∷ ops) t.ready in
+    let last_free = free_hand end.sections end.machine.places (hand_at end.machine cpu) ops (ready_at end cpu ops 0 rest.core within rest.waits) in
     record {
       moves = rw all (rw none rest.moves);
       counts = λ kind u. rw all
@@ -258,7 +266,7 @@ split_moves s cpu key parts first size tag ops core b is = (whole s cpu key part
 pub split_bytes : (s : CoreState) (cpu key parts first t : ℕ) (ops : List Op) → IsCore s → Begins s cpu (Split key parts first) ops
     → live_total Bytes t (live_of (word_state (after_steps s cpu (2 * parts)))) ≡ live_total Bytes t (live_of (word_state s))
 split_bytes s cpu key parts first t ops core b =
-    let live = (split_passes s.machine.places s.machine.waiting key parts first (in_free s.machine cpu (Split key parts first) ops 0 b.waits b.free)).live in
+    let live = (split_passes s.machine.places s.machine.waiting key parts first (in_free s.machine (scene_at s.modules cpu) cpu (Split key parts first) ops 0 b.waits b.free)).live in
     let x = counted_is (held_at s.machine.places key) (and_parts (is_counted (held_at s.machine.places key)) _ live).0 in
     let w = (whole s cpu key parts first x.1 x.0 ops core b x.2).counts Bytes t in
     omega (arith, no_bytes (x.0.number == t) (parts - 1))

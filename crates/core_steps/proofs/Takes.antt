@@ -7,25 +7,27 @@ use Rattle.tag_model.specs.declared.shape.Shape.{Shape}
 use Rattle.tag_model.specs.declared.state.Tag.{Tag}
 use Rattle.tag_model.specs.declared.state.Hand.{Hand}
 use Rattle.tag_model.specs.declared.state.Held.{Held}
+use Rattle.tag_model.specs.declared.state.Run.{Run}
 use Rattle.tag_model.specs.declared.state.Held.TheVariants as held
 use Rattle.tag_model.specs.declared.state.Kind.{Kind}
 use Rattle.tag_model.specs.declared.state.Kind.TheVariants.{Bytes, Calls}
 use Rattle.tag_model.specs.declared.state.Part.{Part}
-use Rattle.tag_model.specs.declared.state.Part.TheVariants.{Cpu, Place, Modules, NextId}
+use Rattle.tag_model.specs.declared.state.Part.TheVariants.{Cpu, Place}
 use Rattle.tag_model.specs.declared.limits.TheConstants.{SIZE_END, MAX_HAND_CALLS}
 use Rattle.tag_model.specs.Shape.{IsChecked}
 use Rattle.tag_model.specs.Laws.{Safe}
 use Rattle.tag_model.specs.Reference.{hand_counts_of, held_counts_of, held_fits, hand_fits, is_settled}
-use Rattle.tag_model.specs.StepRules.{begins_allocation, adds_bytes, adds_call, subtracts_bytes, subtracts_call, writes_place, BeginsAllocation, AddsBytes, AddsCall, SubtractsBytes, SubtractsCall, WritesPlace, raised, lowered, without_call}
+use Rattle.tag_model.specs.StepRules.{begins_allocation, adds_bytes, adds_call, subtracts_bytes, subtracts_call, writes_place, BeginsAllocation, AddsBytes, AddsCall, SubtractsBytes, SubtractsCall, WritesPlace, may_begin, raised, lowered, without_call}
 use Rattle.tag_model.specs.WordState.{part_fits}
 use Rattle.tag_model.proofs.CpuRows.{safe-begins_allocation, safe-adds_bytes, safe-adds_call, safe-subtracts_bytes, safe-subtracts_call, seen}
-use Rattle.tag_model.proofs.CpuFits.{HandFits, hand_fits_means, hand_covered}
+use Rattle.tag_model.proofs.CpuFits.{HandFits, hand_fits_means}
 use Rattle.tag_model.proofs.PlaceRow.{safe-writes_place}
-use Rattle.tag_model.proofs.Swept.{covered_below, part_passes}
+use Rattle.tag_model.proofs.Swept.{part_passes}
+use Rattle.tag_model.proofs.Told.{hand_in_tags}
 use Rattle.core_steps.specs.declared.step.WordStep.{WordStep}
-use Rattle.core_steps.specs.declared.step.WordStep.TheVariants.{BeginAllocation, AddBytes, AddCall, SubtractBytes, SubtractCall, Write}
+use Rattle.core_steps.specs.declared.step.WordStep.TheVariants.{BeginAllocation, AddBytes, AddCall, SubtractBytes, SubtractCall, Write, GoIn, GoOut, Rest}
 use Rattle.core_steps.specs.Machine.{Machine, hand_at, held_at, hand_after, places_after, words_after, raised_in_hand, lowered_in_hand, with_bytes, with_call, less_bytes, CanTake, HandInWords, HasRoom, HasBytes, HasCall}
-use Rattle.core_steps.specs.CoreState.{words_at, state_of, no_modules, cpu_part, cpu_parts, place_parts}
+use Rattle.core_steps.specs.CoreState.{words_at, cpu_part, cpu_parts, place_parts}
 use Rattle.core_steps.proofs.Parts.{becomes_first, length-cpu_parts, get_or-cpu_parts, get_or-place_parts, length-place_parts, sum_both, sum_without}
 use Rattle.core_steps.proofs.Leads.{Leads, leads_cpu, leads_place}
 
@@ -63,52 +65,59 @@ pub record CanWrite (hand next : Option Hand) (was will : Held) : Type 0 where
   pub stays : (kind : Kind) (tag : Tag) → hand_counts_of kind tag hand + held_counts_of kind tag was ≡ hand_counts_of kind tag next + held_counts_of kind tag will
   pub settled : is_settled next ≡ true
 
-pub record CanBegin (k : Shape) (tag : Tag) (hand : Option Hand) : Type 0 where
+pub record CanBegin (k : Shape) (runs : List Run) (tag : Tag) (hand : Option Hand) : Type 0 where
   pub free : hand ≡ None
-  pub in_kernel : tag.module ≡ 0
-  pub below : tag.number < k.kernel_tags
+  pub allowed : may_begin k tag runs ≡ true
+  pub below : tag.number < k.tags
 
-abbrev pub IsRuled : Shape → WordStep → Option Hand → List Held → Type 0
-IsRuled k (BeginAllocation tag) hand places = CanBegin k tag hand
-IsRuled k (AddBytes size) hand places = InHand hand (λ h. IsBegun h size)
-IsRuled k AddCall hand places = InHand hand CanAddCall
-IsRuled k (SubtractBytes bytes) hand places = InHand hand (CanSubtractBytes bytes)
-IsRuled k SubtractCall hand places = InHand hand CanSubtractCall
-IsRuled k (Write key will next) hand places = (key < length places) × CanWrite hand next (held_at places key) will
+-- steps on words and places; what goes into modules and out of them is no such step
+abbrev pub IsRuled : Shape → List Run → WordStep → Option Hand → List Held → Type 0
+IsRuled k runs (BeginAllocation tag) hand places = CanBegin k runs tag hand
+IsRuled k runs (AddBytes size) hand places = InHand hand (λ h. IsBegun h size)
+IsRuled k runs AddCall hand places = InHand hand CanAddCall
+IsRuled k runs (SubtractBytes bytes) hand places = InHand hand (CanSubtractBytes bytes)
+IsRuled k runs SubtractCall hand places = InHand hand CanSubtractCall
+IsRuled k runs (Write key will next) hand places = (key < length places) × CanWrite hand next (held_at places key) will
+IsRuled k runs (GoIn section) hand places = ⊥
+IsRuled k runs (GoOut section) hand places = ⊥
+IsRuled k runs Rest hand places = ⊥
 
-abbrev pub tail_of : List Held → List Part
-tail_of places = place_parts 0 places ++ Modules no_modules ∷ NextId 1 ∷ []
+abbrev pub tail_of : List Held → List Part → List Part
+tail_of places lists = place_parts 0 places ++ lists
 
 -- a hand is as it was where it is put back
-module _ (k : Shape) (checked : IsChecked k) (m : Machine) (words : List (List ℕ)) (cpu : ℕ) (len : length m.hands ≡ length words) (below : cpu < length m.hands) where
-  pub leads_step : (step : WordStep) → IsRuled k step (hand_at m cpu) m.places
-      → Leads k (cpu_parts 0 m.hands words ++ tail_of m.places)
-      (cpu_parts 0 (set m.hands cpu (hand_after step (hand_at m cpu))) (set words cpu (words_after step (hand_at m cpu) (words_at words cpu))) ++ tail_of (places_after step m.places))
-  leads_step (BeginAllocation tag) r = leads_cpu k m.hands words (tail_of m.places) cpu _ (raised Calls tag.number 1 (words_at words cpu)) len below
-      (let row : BeginsAllocation k tag (cpu_part (0 + cpu) (hand_at m cpu) (words_at words cpu)) (cpu_part (0 + cpu) (Some (record { tag = tag; bytes = 0; calls = 1; opening = true })) (raised Calls tag.number 1 (words_at words cpu))) =
-      record { free = r.free; allowed = let a = r.in_kernel in let b = r.below in grind (arith, nat_tests); after = refl } in
+module _ (k : Shape) (checked : IsChecked k) (m : Machine) (words : List (List ℕ)) (cpu : ℕ) (runs : ℕ → List Run) (lists : List Part) (len : length m.hands ≡ length words) (below : cpu < length m.hands) where
+  pub leads_step : (step : WordStep) → IsRuled k (runs (0 + cpu)) step (hand_at m cpu) m.places
+      → Leads k (cpu_parts 0 m.hands words runs ++ tail_of m.places lists)
+      (cpu_parts 0 (set m.hands cpu (hand_after step (hand_at m cpu))) (set words cpu (words_after step (hand_at m cpu) (words_at words cpu))) runs ++ tail_of (places_after step m.places) lists)
+  leads_step (BeginAllocation tag) r = leads_cpu k m.hands words runs (tail_of m.places lists) cpu _ (raised Calls tag.number 1 (words_at words cpu)) len below
+      (let row : BeginsAllocation k tag (cpu_part (0 + cpu) (hand_at m cpu) (words_at words cpu) (runs (0 + cpu))) (cpu_part (0 + cpu) (Some (record { tag = tag; bytes = 0; calls = 1; opening = true })) (raised Calls tag.number 1 (words_at words cpu)) (runs (0 + cpu))) =
+      record { free = r.free; allowed = r.allowed; after = refl } in
       record { row = begins_allocation row; safe = λ old new becomes. safe-begins_allocation k tag _ _ old new checked row becomes })
-  leads_step (AddBytes size) r = rw r.held (leads_cpu k m.hands words (tail_of m.places) cpu (with_bytes size (Some r.h)) (raised Bytes r.h.tag.number size (words_at words cpu)) len below
-      (let row : AddsBytes size r.h (cpu_part (0 + cpu) (hand_at m cpu) (words_at words cpu)) (cpu_part (0 + cpu) (with_bytes size (Some r.h)) (raised Bytes r.h.tag.number size (words_at words cpu))) =
+  leads_step (AddBytes size) r = rw r.held (leads_cpu k m.hands words runs (tail_of m.places lists) cpu (with_bytes size (Some r.h)) (raised Bytes r.h.tag.number size (words_at words cpu)) len below
+      (let row : AddsBytes size r.h (cpu_part (0 + cpu) (hand_at m cpu) (words_at words cpu) (runs (0 + cpu))) (cpu_part (0 + cpu) (with_bytes size (Some r.h)) (raised Bytes r.h.tag.number size (words_at words cpu)) (runs (0 + cpu))) =
       record { held = r.held; opening = r.holds.opening; none_yet = r.holds.none_yet; some = r.holds.some; fits = r.holds.fits; after = refl } in
       record { row = adds_bytes row; safe = λ old new becomes. safe-adds_bytes k size r.h _ _ old new checked row becomes }))
-  leads_step AddCall r = rw r.held (leads_cpu k m.hands words (tail_of m.places) cpu (with_call (Some r.h)) (raised Calls r.h.tag.number 1 (words_at words cpu)) len below
-      (let row : AddsCall r.h (cpu_part (0 + cpu) (hand_at m cpu) (words_at words cpu)) (cpu_part (0 + cpu) (with_call (Some r.h)) (raised Calls r.h.tag.number 1 (words_at words cpu))) =
+  leads_step AddCall r = rw r.held (leads_cpu k m.hands words runs (tail_of m.places lists) cpu (with_call (Some r.h)) (raised Calls r.h.tag.number 1 (words_at words cpu)) len below
+      (let row : AddsCall r.h (cpu_part (0 + cpu) (hand_at m cpu) (words_at words cpu) (runs (0 + cpu))) (cpu_part (0 + cpu) (with_call (Some r.h)) (raised Calls r.h.tag.number 1 (words_at words cpu)) (runs (0 + cpu))) =
       record { held = r.held; settled = r.holds.settled; counted = r.holds.counted; room = r.holds.room; after = refl } in
       record { row = adds_call row; safe = λ old new becomes. safe-adds_call k r.h _ _ old new checked row becomes }))
-  leads_step (SubtractBytes bytes) r = rw r.held (leads_cpu k m.hands words (tail_of m.places) cpu (less_bytes bytes (Some r.h)) (lowered Bytes r.h.tag.number bytes (words_at words cpu)) len below
-      (let row : SubtractsBytes bytes r.h (cpu_part (0 + cpu) (hand_at m cpu) (words_at words cpu)) (cpu_part (0 + cpu) (less_bytes bytes (Some r.h)) (lowered Bytes r.h.tag.number bytes (words_at words cpu))) =
+  leads_step (SubtractBytes bytes) r = rw r.held (leads_cpu k m.hands words runs (tail_of m.places lists) cpu (less_bytes bytes (Some r.h)) (lowered Bytes r.h.tag.number bytes (words_at words cpu)) len below
+      (let row : SubtractsBytes bytes r.h (cpu_part (0 + cpu) (hand_at m cpu) (words_at words cpu) (runs (0 + cpu))) (cpu_part (0 + cpu) (less_bytes bytes (Some r.h)) (lowered Bytes r.h.tag.number bytes (words_at words cpu)) (runs (0 + cpu))) =
       record { held = r.held; settled = r.holds.settled; within = r.holds.within; after = refl } in
       record { row = subtracts_bytes row; safe = λ old new becomes. safe-subtracts_bytes k bytes r.h _ _ old new checked row becomes }))
-  leads_step SubtractCall r = rw r.held (leads_cpu k m.hands words (tail_of m.places) cpu (without_call r.h) (lowered Calls r.h.tag.number 1 (words_at words cpu)) len below
-      (let row : SubtractsCall r.h (cpu_part (0 + cpu) (hand_at m cpu) (words_at words cpu)) (cpu_part (0 + cpu) (without_call r.h) (lowered Calls r.h.tag.number 1 (words_at words cpu))) =
+  leads_step SubtractCall r = rw r.held (leads_cpu k m.hands words runs (tail_of m.places lists) cpu (without_call r.h) (lowered Calls r.h.tag.number 1 (words_at words cpu)) len below
+      (let row : SubtractsCall r.h (cpu_part (0 + cpu) (hand_at m cpu) (words_at words cpu) (runs (0 + cpu))) (cpu_part (0 + cpu) (without_call r.h) (lowered Calls r.h.tag.number 1 (words_at words cpu)) (runs (0 + cpu))) =
       record { held = r.held; settled = r.holds.settled; bytes_first = r.holds.bytes_first; after = refl } in
       record { row = subtracts_call row; safe = λ old new becomes. safe-subtracts_call k r.h _ _ old new checked row becomes }))
   leads_step (Write key will next) r =
-      leads_place k m.hands words m.places (Modules no_modules ∷ NextId 1 ∷ []) cpu key next (words_at words cpu) will len below r.0
-      (let row : WritesPlace (cpu_part (0 + cpu) (hand_at m cpu) (words_at words cpu)) (cpu_part (0 + cpu) next (words_at words cpu)) (held_at m.places key) will =
+      leads_place k m.hands words runs m.places lists cpu key next (words_at words cpu) will len below r.0
+      (let row : WritesPlace (cpu_part (0 + cpu) (hand_at m cpu) (words_at words cpu) (runs (0 + cpu))) (cpu_part (0 + cpu) next (words_at words cpu) (runs (0 + cpu))) (held_at m.places key) will =
       record { place_fits = r.1.place_fits; hand_fits = r.1.hand_fits; stays = r.1.stays; settled = inr r.1.settled; after = refl } in
       record { row = writes_place row; safe = λ old new becomes. safe-writes_place k (0 + key) _ _ (held_at m.places key) will old new checked row becomes })
+  leads_step (GoIn section) r = elim r [ ]
+  leads_step (GoOut section) r = elim r [ ]
+  leads_step Rest r = elim r [ ]
 
 -- ---- what the laws tell of the hands and the places
 
@@ -116,15 +125,13 @@ module _ (k : Shape) (checked : IsChecked k) (m : Machine) (words : List (List �
 abbrev pub PlacesFit : List Held → Type 0
 PlacesFit places = (key : ℕ) → held_fits (held_at places key) ≡ true
 
-pub places_fit : (k : Shape) (m : Machine) (words : List (List ℕ)) → Safe k (state_of m words) → PlacesFit m.places
-unfolding state_of
-places_fit k m words safe key = elim (cases_lt key (length m.places)) [
+pub places_fit : (k : Shape) (m : Machine) (words : List (List ℕ)) (runs : ℕ → List Run) (lists : List Part) → Safe k (cpu_parts 0 m.hands words runs ++ tail_of m.places lists) → PlacesFit m.places
+places_fit k m words runs lists safe key = elim (cases_lt key (length m.places)) [
   | inl l ↦
       let part = Place (0 + key) (held_at m.places key) in
-      let rest = Modules no_modules ∷ NextId 1 ∷ [] in
       let len = length-place_parts 0 m.places in
-      part_passes (part_fits k) (cpu_parts 0 m.hands words ++ (place_parts 0 m.places ++ rest)) part
-      (λ f. let a = sum_both f (cpu_parts 0 m.hands words) (place_parts 0 m.places ++ rest) in let b = sum_both f (place_parts 0 m.places) rest in
+      part_passes (part_fits k) (cpu_parts 0 m.hands words runs ++ (place_parts 0 m.places ++ lists)) part
+      (λ f. let a = sum_both f (cpu_parts 0 m.hands words runs) (place_parts 0 m.places ++ lists) in let b = sum_both f (place_parts 0 m.places) lists in
       let c = sum_without f (place_parts 0 m.places) key part (omega arith) (get_or-place_parts 0 m.places key part l) in omega arith)
       safe.fits
   | inr past ↦ rw (get_or_past m.places key held.None past) refl
@@ -135,22 +142,22 @@ pub record HandSeen (k : Shape) (h : Hand) : Type 0 where
   pub below : h.tag.number < k.tags
   pub fits : HandFits h
 
-pub hand_seen : (k : Shape) (m : Machine) (words : List (List ℕ)) (cpu : ℕ) (h : Hand) → IsChecked k → length m.hands ≡ length words → cpu < length m.hands → Safe k (state_of m words) → hand_at m cpu ≡ Some h → HandSeen k h
-unfolding state_of
-hand_seen k m words cpu h checked len below safe is =
-    let c = cpu_part (0 + cpu) (hand_at m cpu) (words_at words cpu) in
-    let ps = cpu_parts 0 m.hands words in
-    let there = length-cpu_parts 0 m.hands words len in
-    let b = becomes_first ps (tail_of m.places) cpu (Cpu c) (Cpu c) (omega arith) (get_or-cpu_parts 0 m.hands words cpu (Cpu c) len below) in
+pub hand_seen : (k : Shape) (m : Machine) (words : List (List ℕ)) (runs : ℕ → List Run) (lists : List Part) (cpu : ℕ) (h : Hand) → IsChecked k → length m.hands ≡ length words → cpu < length m.hands
+    → Safe k (cpu_parts 0 m.hands words runs ++ tail_of m.places lists) → hand_at m cpu ≡ Some h → HandSeen k h
+hand_seen k m words runs lists cpu h checked len below safe is =
+    let c = cpu_part (0 + cpu) (hand_at m cpu) (words_at words cpu) (runs (0 + cpu)) in
+    let ps = cpu_parts 0 m.hands words runs in
+    let there = length-cpu_parts 0 m.hands words runs len in
+    let b = becomes_first ps (tail_of m.places lists) cpu (Cpu c) (Cpu c) (omega arith) (get_or-cpu_parts 0 m.hands words runs cpu (Cpu c) len below) in
     let s = seen k c [] _ _ _ b safe in
     record {
-      below = covered_below k (ps ++ tail_of m.places) s.list checked s.laws h.tag (hand_covered k c h (ps ++ tail_of m.places) s.stands safe.fits safe.cover is);
+      below = hand_in_tags k c h [] _ _ _ checked b safe is;
       fits = hand_fits_means h (subst (λ (o : Option Hand). hand_fits o ≡ true) is s.fit.hand);
     }
 
 -- ---- the words and the places that a step writes are there
 
-module _ (k : Shape) (words places : ℕ) (own : words ≡ 2 * k.tags) (kernel : k.kernel_tags ≤ k.tags) where
+module _ (k : Shape) (words places : ℕ) (own : words ≡ 2 * k.tags) (runs : List Run) where
   hand_in_words : (hand : Option Hand) → ((h : Hand) → hand ≡ Some h → HandSeen k h) → HandInWords hand words
   hand_in_words None s = tt
   hand_in_words (Some h) s = let f = (s h refl).below in omega arith
@@ -167,13 +174,16 @@ module _ (k : Shape) (words places : ℕ) (own : words ≡ 2 * k.tags) (kernel :
   has_call None r = tt
   has_call (Some h) r = let e : h ≡ r.h = cc in rw e r.holds.some
 
-  pub can_take : (step : WordStep) (hand : Option Hand) (all : List Held) → length all ≡ places → ((h : Hand) → hand ≡ Some h → HandSeen k h) → IsRuled k step hand all → CanTake step hand words places
+  pub can_take : (step : WordStep) (hand : Option Hand) (all : List Held) → length all ≡ places → ((h : Hand) → hand ≡ Some h → HandSeen k h) → IsRuled k runs step hand all → CanTake step hand words places
   can_take (BeginAllocation tag) hand all len s r = let b = r.below in omega arith
   can_take (AddBytes size) hand all len s r = hand_in_words hand s
   can_take AddCall hand all len s r = (hand_in_words hand s, has_room hand r)
   can_take (SubtractBytes bytes) hand all len s r = (hand_in_words hand s, has_bytes bytes hand r)
   can_take SubtractCall hand all len s r = (hand_in_words hand s, has_call hand r)
   can_take (Write key will next) hand all len s r = let b = r.0 in omega arith
+  can_take (GoIn section) hand all len s r = tt
+  can_take (GoOut section) hand all len s r = tt
+  can_take Rest hand all len s r = tt
 
 -- ---- what a step keeps
 
@@ -184,6 +194,9 @@ length-places_after AddCall places = refl
 length-places_after (SubtractBytes bytes) places = refl
 length-places_after SubtractCall places = refl
 length-places_after (Write key will next) places = length-set places key will
+length-places_after (GoIn section) places = refl
+length-places_after (GoOut section) places = refl
+length-places_after Rest places = refl
 
 length-raised : (hand : Option Hand) (kind : Kind) (n : ℕ) (words : List ℕ) → length (raised_in_hand hand kind n words) ≡ length words
 length-raised None kind n words = refl
@@ -200,3 +213,6 @@ length-words_after AddCall hand words = length-raised hand Calls 1 words
 length-words_after (SubtractBytes bytes) hand words = length-lowered hand Bytes bytes words
 length-words_after SubtractCall hand words = length-lowered hand Calls 1 words
 length-words_after (Write key will next) hand words = refl
+length-words_after (GoIn section) hand words = refl
+length-words_after (GoOut section) hand words = refl
+length-words_after Rest hand words = refl

@@ -1,4 +1,4 @@
-ghost use Rattle.std.specs.Prelude.{◌≡◌, ◌∷◌, ◌↔◌, [], IsTrue, true, length, OnOk, OnErr, Some, slice_get};
+ghost use Rattle.std.specs.Prelude.{◌≡◌, ◌∷◌, ◌↔◌, [], IsTrue, true, false, drop, length, OnOk, OnErr, Some, slice_get};
 ghost use Rattle.core_steps.specs.Modules.{Managing, nothing_managed};
 ghost use Rattle.core_steps.specs.CoreState.{with_managed};
 

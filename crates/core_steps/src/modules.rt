@@ -113,6 +113,7 @@ impl ModuleTable {
         ensures value { result.now ≡ self.now.list }
         ensures holds { IsList self.now.list }
     {
+        let _book = self.list.book();
         &self.list
     }
 

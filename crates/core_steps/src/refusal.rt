@@ -41,7 +41,8 @@ fn names_key(op: Op, key: u32) -> bool
             first,
         } => named == key || is_new_key(key, parts, first),
         Op::Swap { one, two } => one == key || two == key,
-        Op::Enter { .. } | Op::Leave { .. } | Op::Load { .. } | Op::Unload { .. } | Op::Clean => false,
+        Op::Enter { .. } | Op::Leave { .. } | Op::Load { .. } | Op::Unload { .. } | Op::Clean =>
+            false,
     }
 }
 

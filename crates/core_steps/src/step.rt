@@ -1,6 +1,7 @@
 //! The steps of each op, in order.
 
-ghost use Rattle.std.specs.Prelude.{◌≡◌, ◌+◌, ◌*◌, ◌^◌, ◌<◌, ◌≤◌, length};
+ghost use Rattle.std.specs.Prelude.{◌≡◌, ◌+◌, ◌*◌, ◌^◌, ◌<◌, ◌≤◌, ◌≢◌, length};
+ghost use Rattle.tag_model.specs.declared.state.Tag.{Tag};
 ghost use Rattle.tag_model.specs.StepRules.{without_call};
 ghost use Rattle.core_steps.specs.declared.op.TheConstants.{KEY_END};
 ghost use Rattle.core_steps.specs.Machine.{step_of, open_step, close_step, split_step, part_key, share_step, share_of, rest_of, swap_step, trim_step, clear_step, put_step, in_hand, put_down, bytes_in, step_count, words_after, hand_after, places_after, CanTake, KeysFit, HasCall, held_at};
@@ -72,7 +73,7 @@ pub fn next_step(
     requires under_way { done < step_count op }
     requires calls { HasCall hand }
     requires places { length places.now ≡ KEY_END }
-    requires tag { TagFits op inside.now }
+    requires tag { done ≡ 0 → TagFits op inside.now }
     ensures { result ≡ step_of op done hand places.now inside.now }
 {
     match op {
@@ -81,7 +82,12 @@ pub fn next_step(
             section,
             index,
             size,
-        } => open_step(key, inside.tag(section, index), size, done, hand),
+        } => match done {
+            0 => WordStep::BeginAllocation {
+                tag: inside.tag(section, index),
+            },
+            _ => later_open_step(key, size, done, hand),
+        },
         Op::Close { key } => close_step(key, done, hand, places),
         Op::Split { key, parts, first } => split_step(key, parts, first, done, hand, places),
         Op::Swap { one, two } => swap_step(one, two, done, hand, places),
@@ -92,11 +98,12 @@ pub fn next_step(
     }
 }
 
-fn open_step(key: u32, tag: Tag, size: u64, done: u64, hand: Option<Hand>) -> WordStep
-    ensures { result ≡ open_step key tag size done hand }
+/// The steps of an allocation behind its first.
+fn later_open_step(key: u32, size: u64, done: u64, hand: Option<Hand>) -> WordStep
+    requires { done ≢ 0 }
+    ensures { (tag : Tag) → result ≡ open_step key tag size done hand }
 {
     match done {
-        0 => WordStep::BeginAllocation { tag },
         1 => WordStep::AddBytes { size },
         _ => put_step(key, hand),
     }
