@@ -19,8 +19,6 @@ pub mod Steps
 pub mod Quiet
 pub mod SplitRun
 pub mod Managed
-pub mod Manages
-pub mod Found
 pub mod ManagerRow
 pub mod ManagerCore
 pub mod ManagerLeft

@@ -1,19 +1,16 @@
 -- The manager's step leaves fewer steps, and none is left where nothing is queued.
-use Rattle.std.proofs.Common.{◌≡◌, ℕ, ◌+◌, ◌*◌, ◌<◌, ◌≤◌, List, [], ◌∷◌, length, refl, sym, subst, arith, Bool, true, false, cond, None}
+use Rattle.std.proofs.Common.{◌≡◌, ℕ, ◌+◌, ◌<◌, ◌≤◌, List, [], ◌∷◌, refl, sym, subst, arith, Bool, true, false, cond, None}
 use Rattle.tag_model.specs.declared.shape.Shape.{Shape}
 use Rattle.tag_model.specs.declared.state.Sweep.{Sweep}
 use Rattle.tag_model.specs.declared.state.Sweep.TheVariants as sweep
-use Rattle.module_area.specs.Entries.{is_loaded_as}
 use Rattle.core_list.specs.ListState.{ListState, dead_list, loaded, most_steps, next_of, released, scanned, sweep_steps, swept_list}
 use Rattle.core_list.proofs.Ends.{scan_falls, release_falls, begins_of_all, begins_of_one, most_of_all, most_of_one}
-use Rattle.core_steps.specs.declared.op.Actor.TheVariants as actor
 use Rattle.core_steps.specs.declared.op.Op.{Op}
 use Rattle.core_steps.specs.Modules.{Managing, ModuleTable, is_nothing, managed, managed_on, manager_refusal, section_len, word_read}
 use Rattle.core_steps.specs.CoreState.{CoreState, IsCore}
 use Rattle.core_steps.specs.StepsLeft.{manager_steps_left, most_left, most_of_ops}
-use Rattle.core_steps.proofs.Found.{found_by_id}
-use Rattle.core_steps.proofs.Managed.{sweep_told}
-use Rattle.core_steps.proofs.Manages.{Manages, ManagesFirst}
+use Rattle.core_steps.proofs.Loaded.{loaded_found}
+use Rattle.core_steps.proofs.Managed.{sweep_told, Manages}
 use Rattle.core_steps.proofs.ManagerRow.{managed_first}
 
 -- no op is under way
@@ -39,7 +36,7 @@ left_after s core op ops n after (Manages.loads section starts is none) =
     rw starts (omega (arith, left_at_rest s.shape (loaded section (section_len s.sections section) s.modules.list) ops, one_op_more s.shape op ops))
 left_after s core op ops n after (Manages.marks_dead section e starts is unused) =
     let l = s.modules.list in
-    let there = found_by_id l (is_loaded_as section) e core.modules.list is in
+    let there = (loaded_found section l e core.modules.list is).0 in
     rw starts (omega (
       arith,
       left_behind s.shape op ops (dead_list e.id l),

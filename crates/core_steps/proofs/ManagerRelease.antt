@@ -1,8 +1,7 @@
 -- What the manager's step releases is dead, and no place and no hand names it.
-use Rattle.std.proofs.Common.{◌≡◌, ℕ, ◌+◌, ◌<◌, ◌≤◌, ◌⊎◌, ◌==◌, ◌&&◌, List, [], ◌∷◌, ◌++◌, length, get_or, map, sum_by, count_by, refl, sym, ap, ◌∙◌, subst, arith, inl, inr, Bool, true, false, cond, Option, Some, None, eq-eqb}
+use Rattle.std.proofs.Common.{◌≡◌, ℕ, ◌+◌, ◌<◌, ◌≤◌, ◌⊎◌, ◌==◌, ◌&&◌, List, [], ◌∷◌, ◌++◌, length, get_or, map, sum_by, count_by, refl, sym, ap, ◌∙◌, subst, arith, inl, inr, Bool, true, false, cond, Option, Some, None, IsSomeAnd, eq-eqb}
 use Rattle.std.proofs.lemmas.Bool.{and_from, cases_lt}
 use Rattle.std.proofs.lemmas.List.{get_or_past}
-use Rattle.tag_model.specs.declared.shape.Shape.{Shape}
 use Rattle.tag_model.specs.declared.state.Hand.{Hand}
 use Rattle.tag_model.specs.declared.state.Held.{Held}
 use Rattle.tag_model.specs.declared.state.Held.TheVariants as held
@@ -15,6 +14,7 @@ use Rattle.tag_model.specs.declared.state.Stop.{Stop}
 use Rattle.tag_model.specs.declared.state.Sweep.{Sweep}
 use Rattle.tag_model.specs.declared.state.Sweep.TheVariants as sweep
 use Rattle.tag_model.specs.declared.state.Tag.{Tag}
+use Rattle.tag_model.specs.Laws.{are_dead}
 use Rattle.tag_model.specs.Reference.{hand_counts_of, hand_fits}
 use Rattle.tag_model.specs.StepRules.{Becomes, Releases}
 use Rattle.tag_model.specs.WordState.{counted, counted_of, in_range, part_fits}
@@ -24,20 +24,21 @@ use Rattle.tag_model.proofs.Lists.{in_range_from}
 use Rattle.tag_model.proofs.ReleaseRow.{counted_of_number, release_in_range, release_is_dead, release_of_module}
 use Rattle.tag_model.proofs.Swept.{Holds, part_passes}
 use Rattle.module_area.specs.declared.entry.Entry.{Entry}
+use Rattle.module_area.specs.declared.entry.State.TheVariants.{Dead}
 use Rattle.module_area.specs.Entries.{entry_of}
 use Rattle.core_list.specs.declared.list.Next.TheVariants.{Release}
-use Rattle.core_list.specs.ListState.{ListState, found_at, list_part, next_of, record_of, records_of, released, released_at, section_in}
+use Rattle.core_list.specs.ListState.{ListState, found_at, left_ids, list_part, next_of, record_of, records_of, released, released_at, section_in}
 use Rattle.core_list.proofs.Changes.{row-releases}
-use Rattle.core_list.proofs.Split.{book_entry_at, records_at}
+use Rattle.core_list.specs.declared.list.Stage.TheVariants.{Done}
+use Rattle.core_list.proofs.Methods.{releases_dead, releasing}
+use Rattle.core_list.proofs.Split.{TheEntry, book_entry_at, records_at, the_entry}
 use Rattle.core_steps.specs.declared.op.Cause.{Cause}
-use Rattle.core_steps.specs.declared.op.Event.{Event}
 use Rattle.core_steps.specs.declared.op.Event.TheVariants.{Stepped}
 use Rattle.core_steps.specs.Machine.{Machine, hand_at, held_at}
 use Rattle.core_steps.specs.Modules.{cause_of, event_of_sweep, kept_by, manager_event, manager_refusal, word_read}
 use Rattle.core_steps.specs.CoreState.{CoreState, IsCore, cpu_part, cpu_parts, list_parts, place_parts, runs_of, state_with, word_state}
-use Rattle.core_steps.specs.Release.{IfReleases, IsReleasable, Names, NothingNames}
-use Rattle.core_steps.proofs.Found.{DeadEntry, dead_entry}
-use Rattle.core_steps.proofs.Managed.{list_becomes}
+use Rattle.core_steps.specs.Release.{IfReleases, IsReleasable, Names}
+use Rattle.core_steps.proofs.Managed.{list_becomes, sweep_told}
 use Rattle.core_steps.proofs.Parts.{get_or-cpu_parts, get_or-place_parts, length-cpu_parts, length-place_parts, sum_both, sum_without}
 
 -- ---- each place and each CPU stands in the state
@@ -77,21 +78,30 @@ module _ (s : CoreState) (core : IsCore s) (id : ℕ) (left : List ℕ) (is : s.
   unfolding after
   becomes = list_becomes 0 0 s.machine s.words (runs_of s.modules) s.modules.list (released s.modules.list) (ap (λ (x : Sweep). (released_at s.modules.list x).last_id) is)
 
-  gone : DeadEntry s.modules.list id
-  gone = dead_entry s.modules.list id core.modules.list (release_is_dead s.shape (id ∷ left) id _ _ _ _ row becomes core.safe)
+  gone : TheEntry s.modules.list.area.entries id (λ r. r.dead)
+  gone = the_entry s.modules.list.area id (λ r. r.dead) core.modules.list.book (release_is_dead s.shape (id ∷ left) id _ _ _ _ row becomes core.safe)
+
+  of_id : gone.entry.id ≡ id
+  of_id = (book_entry_at s.modules.list.area id gone.entry core.modules.list.book gone.is).same_id
+
+  dead : gone.entry.state ≡ Dead
+  dead =
+      let l = s.modules.list in
+      let listed : are_dead (id ∷ left) (records_of l) ≡ true = subst (λ x. are_dead (left_ids x) (records_of l) ≡ true) is (sweep_told s core).1 in
+      subst (λ o. IsSomeAnd o (λ (e : Entry). e.state ≡ Dead)) gone.is (releases_dead l.area Done (id ∷ left) id core.modules.list.book (releasing Done (id ∷ left) id refl) listed)
 
   in_its_range : (tag : Tag) → gone.entry.start ≤ tag.number → tag.number < gone.entry.start + gone.entry.length → 0 < count_by (λ (r : Record). (r.id == id) && in_range r.start r.length tag.number) (records_of s.modules.list)
   in_its_range tag low high =
       let l = s.modules.list in
       let e = gone.entry in
-      let at = book_entry_at l.area id e core.modules.list.book gone.listed in
+      let at = book_entry_at l.area id e core.modules.list.book gone.is in
       let test : Record → Bool = λ r. (r.id == id) && in_range r.start r.length tag.number in
       subst (λ rs. 0 < count_by test rs) (sym (records_at l.area.entries id e at))
-      (count_at test (map record_of at.front) (record_of e) (map record_of at.back) (and_from _ _ (eq-eqb e.id id gone.of_id) (in_range_from e.start e.length tag.number low high)))
+      (count_at test (map record_of at.front) (record_of e) (map record_of at.back) (and_from _ _ (eq-eqb e.id id of_id) (in_range_from e.start e.length tag.number low high)))
 
   -- no call is counted under a tag that names it
   none_counted : (tag : Tag) → Names tag gone.entry → sum_by (counted_of Calls tag) (word_state s) ≡ 0
-  none_counted tag (inl of_module) = release_of_module s.shape (id ∷ left) id _ _ _ _ row becomes core.safe tag (of_module ∙ gone.of_id)
+  none_counted tag (inl of_module) = release_of_module s.shape (id ∷ left) id _ _ _ _ row becomes core.safe tag (of_module ∙ of_id)
   none_counted tag (inr covers) =
       let none = release_in_range s.shape (id ∷ left) id _ _ _ _ row becomes core.safe Calls tag.number (in_its_range tag covers.0 covers.1) in
       omega (arith, counted_of_number Calls tag (word_state s))
@@ -122,10 +132,10 @@ module _ (s : CoreState) (core : IsCore s) (id : ℕ) (left : List ℕ) (is : s.
   releasable : IsReleasable s (section_in (entry_of s.modules.list.area.entries id))
   releasable = record {
     entry = gone.entry;
-    of_section = sym (ap section_in gone.listed);
-    next = ap next_of is ∙ ap Release (sym gone.of_id);
-    listed = subst (λ i. entry_of s.modules.list.area.entries i ≡ Some gone.entry) (sym gone.of_id) gone.listed;
-    dead = gone.dead;
+    of_section = sym (ap section_in gone.is);
+    next = ap next_of is ∙ ap Release (sym of_id);
+    listed = subst (λ i. entry_of s.modules.list.area.entries i ≡ Some gone.entry) (sym of_id) gone.is;
+    dead = dead;
     free = record { places = no_place; hands = no_hand };
   }
 
