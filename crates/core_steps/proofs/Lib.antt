@@ -19,11 +19,10 @@ pub mod Steps
 pub mod Quiet
 pub mod SplitRun
 pub mod Managed
-pub mod Manages
-pub mod Found
 pub mod ManagerRow
 pub mod ManagerCore
 pub mod ManagerLeft
 pub mod RunsTold
 pub mod InsideTags
 pub mod Sweeping
+pub mod ManagerRelease

@@ -1,5 +1,5 @@
 -- A core stays a core after the manager's step, and where an op is queued for the manager.
-use Rattle.std.proofs.Common.{◌≡◌, ℕ, ◌+◌, ◌==◌, List, [], ◌∷◌, ◌++◌, refl, sym, ap, ◌∙◌, subst, arith, Bool, true, false, not, cond, None, All}
+use Rattle.std.proofs.Common.{◌≡◌, ℕ, ◌+◌, ◌==◌, List, [], ◌∷◌, ◌++◌, refl, ◌∙◌, subst, arith, Bool, true, false, not, cond, None, All}
 use Rattle.std.specs.List.{AllByRecursion}
 use Rattle.std.proofs.lemmas.List.Elements.{All-map, All-filter, All-push, All-weaker}
 use Rattle.tag_model.specs.declared.shape.Shape.{Shape}
@@ -13,10 +13,9 @@ use Rattle.core_list.specs.ListState.{ListState, IsList, dead_list, loaded, new_
 use Rattle.core_list.proofs.Kept.{list_dead_marked, list_loaded, list_released, list_scanned, list_swept}
 use Rattle.core_steps.specs.declared.op.Actor.TheVariants as actor
 use Rattle.core_steps.specs.declared.op.Op.{Op}
-use Rattle.core_steps.specs.Modules.{Managing, ModuleTable, is_nothing, managed, managed_on, manager_refusal, section_len, swept_on, word_read}
+use Rattle.core_steps.specs.Modules.{Managing, ModuleTable, is_nothing, managed, managed_on, manager_refusal, section_len, word_read}
 use Rattle.core_steps.specs.CoreState.{AreModules, CoreState, EntryFits, IsCore, IsManagerOp, queued, stepped}
-use Rattle.core_steps.proofs.Managed.{sweep_told}
-use Rattle.core_steps.proofs.Manages.{Manages, ManagesFirst}
+use Rattle.core_steps.proofs.Managed.{sweep_told, Manages}
 use Rattle.core_steps.proofs.ManagerRow.{managed_first, manager_safe}
 
 -- ---- what a step of the manager keeps of the list

@@ -1,17 +1,16 @@
 -- The manager's step leaves fewer steps, and none is left where nothing is queued.
-use Rattle.std.proofs.Common.{◌≡◌, ℕ, ◌+◌, ◌*◌, ◌<◌, ◌≤◌, List, [], ◌∷◌, length, refl, sym, subst, arith, Bool, true, false, cond, None}
+use Rattle.std.proofs.Common.{◌≡◌, ℕ, ◌+◌, ◌<◌, ◌≤◌, List, [], ◌∷◌, refl, sym, subst, arith, Bool, true, false, cond, None}
 use Rattle.tag_model.specs.declared.shape.Shape.{Shape}
-use Rattle.module_area.specs.Entries.{is_loaded_as}
+use Rattle.tag_model.specs.declared.state.Sweep.{Sweep}
+use Rattle.tag_model.specs.declared.state.Sweep.TheVariants as sweep
 use Rattle.core_list.specs.ListState.{ListState, dead_list, loaded, most_steps, next_of, released, scanned, sweep_steps, swept_list}
 use Rattle.core_list.proofs.Ends.{scan_falls, release_falls, begins_of_all, begins_of_one, most_of_all, most_of_one}
-use Rattle.core_steps.specs.declared.op.Actor.TheVariants as actor
 use Rattle.core_steps.specs.declared.op.Op.{Op}
 use Rattle.core_steps.specs.Modules.{Managing, ModuleTable, is_nothing, managed, managed_on, manager_refusal, section_len, word_read}
 use Rattle.core_steps.specs.CoreState.{CoreState, IsCore}
 use Rattle.core_steps.specs.StepsLeft.{manager_steps_left, most_left, most_of_ops}
-use Rattle.core_steps.proofs.Found.{found_by_id}
-use Rattle.core_steps.proofs.Managed.{sweep_told}
-use Rattle.core_steps.proofs.Manages.{Manages, ManagesFirst}
+use Rattle.core_steps.proofs.Loaded.{loaded_found}
+use Rattle.core_steps.proofs.Managed.{sweep_told, Manages}
 use Rattle.core_steps.proofs.ManagerRow.{managed_first}
 
 -- no op is under way
@@ -37,7 +36,7 @@ left_after s core op ops n after (Manages.loads section starts is none) =
     rw starts (omega (arith, left_at_rest s.shape (loaded section (section_len s.sections section) s.modules.list) ops, one_op_more s.shape op ops))
 left_after s core op ops n after (Manages.marks_dead section e starts is unused) =
     let l = s.modules.list in
-    let there = found_by_id l (is_loaded_as section) e core.modules.list is in
+    let there = (loaded_found section l e core.modules.list is).0 in
     rw starts (omega (
       arith,
       left_behind s.shape op ops (dead_list e.id l),
@@ -65,3 +64,22 @@ pub manager_left : (s : CoreState) → IsCore s → manager_refusal s.sections s
 manager_left s core none =
     let first = managed_first s core none in
     subst (λ all. manager_steps_left s.shape (managed s.shape s.sections s.words s.modules) < most_left s.shape s.modules.list all s.modules.manager.under_way) (sym first.is) (left_after s core first.op first.ops _ _ first.step)
+
+-- a sweep that goes on has a step left
+some_left : (s : CoreState) → IsCore s → (x : Sweep) → s.modules.list.sweep ≡ x → is_nothing (next_of x) ≡ false → 0 < sweep_steps s.shape s.modules.list
+some_left s core sweep.None is on = absurd (cc)
+some_left s core (sweep.Reading left r) is on = omega (arith, scan_falls s.shape s.modules.list 0 left r core.modules.list (sweep_told s core).0 is)
+some_left s core (sweep.Done []) is on = absurd (cc)
+some_left s core (sweep.Done (id ∷ left)) is on = omega (arith, release_falls s.shape s.modules.list id left is)
+
+-- ops that wait have a step left
+left_of_op : (s : CoreState) → IsCore s → (op : Op) (ops : List Op) (way : Bool) → s.modules.manager.under_way ≡ way → 0 < most_left s.shape s.modules.list (op ∷ ops) way
+left_of_op s core op ops true way = omega (arith, some_left s core s.modules.list.sweep refl (core.modules.goes_on way))
+left_of_op s core op ops false way = omega (arith, one_op_more s.shape op ops)
+
+pub manager_idle : (s : CoreState) → IsCore s → (manager_steps_left s.shape s.modules ≡ 0 → s.modules.manager.ops ≡ []) × (s.modules.manager.ops ≡ [] → manager_steps_left s.shape s.modules ≡ 0)
+manager_idle s core = (none s.modules.manager.ops, λ e. rw e refl)
+  where
+    none : (ops : List Op) → most_left s.shape s.modules.list ops s.modules.manager.under_way ≡ 0 → ops ≡ []
+    none [] e = refl
+    none (op ∷ ops) e = absurd (omega (arith, left_of_op s core op ops s.modules.manager.under_way refl))

@@ -1,31 +1,25 @@
 -- The manager's step is a row of the step rules, and leaves a safe state.
-use Rattle.std.proofs.Common.{◌≡◌, ℕ, ◌+◌, ◌<◌, ◌≤◌, List, [], ◌∷◌, ◌++◌, length, get_or, set, slice_index, refl, sym, ap, ◌∙◌, subst, arith, Bool, true, false, Option, Some, None, add-zero}
+use Rattle.std.proofs.Common.{◌≡◌, ℕ, ◌+◌, ◌<◌, List, [], ◌∷◌, ◌++◌, length, get_or, set, slice_index, refl, sym, ap, ◌∙◌, subst, arith, true, None, add-zero}
 use Rattle.std.proofs.lemmas.List.{set-get_or}
 use Rattle.tag_model.specs.declared.shape.Shape.{Shape}
 use Rattle.tag_model.specs.declared.state.CpuPart.{CpuPart}
-use Rattle.tag_model.specs.declared.state.Part.{Part}
 use Rattle.tag_model.specs.declared.state.Part.TheVariants.{Cpu, Modules, NextId}
-use Rattle.tag_model.specs.declared.state.Reader.{Reader}
 use Rattle.tag_model.specs.declared.state.Run.{Run}
-use Rattle.tag_model.specs.declared.state.Sweep.TheVariants as sweep
 use Rattle.tag_model.specs.Laws.{Safe, sweep_fits}
 use Rattle.tag_model.specs.StepRules.{Becomes, Row, Scans, Steps, StepsWith, Sweeps}
 use Rattle.tag_model.specs.WordState.{word_place}
 use Rattle.tag_model.proofs.ScanRow.{reading_fits}
 use Rattle.tag_model.proofs.Steps.{safe-steps_with}
-use Rattle.tag_section.specs.Section.{Section}
-use Rattle.module_area.specs.Entries.{is_loaded_as}
-use Rattle.core_list.specs.ListState.{ListState, dead_list, least_start, list_part, load_refusal, loaded, or_zero, records_of, released, released_at, scanned, scanned_at, swept_list}
+use Rattle.core_list.specs.ListState.{ListState, dead_list, list_part, loaded, records_of, released, released_at, scanned, scanned_at, swept_list}
 use Rattle.core_list.proofs.Changes.{row-loads, row-marks_dead, row-releases, row-scans}
 use Rattle.core_steps.specs.Machine.{Machine}
 use Rattle.core_steps.specs.declared.op.Op.{Op}
-use Rattle.core_steps.specs.Modules.{ModuleTable, manager_reads, manager_refusal, section_len, word_read, managed}
+use Rattle.core_steps.specs.Modules.{ModuleTable, manager_reads, manager_refusal, section_len, word_read}
 use Rattle.core_steps.specs.CoreState.{CoreState, IsCore, cpu_part, cpu_parts, place_parts, state_with, state_after, stepped, word_state, runs_of}
 use Rattle.core_steps.specs.declared.op.Actor.TheVariants as actor
 use Rattle.core_steps.proofs.Parts.{becomes_cpu_list, becomes_load, get_or-cpu_parts, length-cpu_parts}
-use Rattle.core_steps.proofs.Managed.{list_becomes, safe_unread, sweep_told}
-use Rattle.core_steps.proofs.Found.{found_by_id, is_loaded}
-use Rattle.core_steps.proofs.Manages.{Manages, ManagesFirst, manages}
+use Rattle.core_steps.proofs.Managed.{list_becomes, safe_unread, sweep_told, Manages, ManagesFirst, manages}
+use Rattle.core_steps.proofs.Loaded.{loaded_found}
 
 -- a row on the list part alone, that reads no word and gives no id
 pub steps_alone : (k : Shape) (reads : ℕ) (m : Machine) (words : List (List ℕ)) (runs : ℕ → List Run) (l n : ListState) → n.last_id ≡ l.last_id → Row k (Modules (list_part reads [] l) ∷ []) (Modules (list_part reads [] n) ∷ [])
@@ -77,7 +71,8 @@ steps_managed s core op ops n after (Manages.loads section starts is none) reads
     steps_loads s.shape reads s.machine s.words (runs_of s.modules) l section (section_len s.sections section) (Row.loads row)
 steps_managed s core op ops n after (Manages.marks_dead section e starts is unused) reads =
     let l = s.modules.list in
-    let row = row-marks_dead l reads e.id e [] core.modules.list (found_by_id l (is_loaded_as section) e core.modules.list is) (is_loaded section l e is) unused in
+    let found = loaded_found section l e core.modules.list is in
+    let row = row-marks_dead l reads e.id e [] core.modules.list found.0 found.1 unused in
     steps_alone s.shape reads s.machine s.words (runs_of s.modules) l (dead_list e.id l) refl (Row.marks_dead row)
 steps_managed s core op ops n after (Manages.sweeps starts) reads =
     let l = s.modules.list in
