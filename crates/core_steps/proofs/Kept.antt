@@ -12,7 +12,8 @@ use Rattle.tag_model.specs.declared.state.Part.{Part}
 use Rattle.tag_section.specs.Section.{Section}
 use Rattle.core_steps.specs.declared.op.Actor.TheVariants as actor
 use Rattle.core_steps.specs.Modules.{ModuleTable, inside_at, scene_at, modules_after}
-use Rattle.core_steps.proofs.GoesIn.{goes_in_row, goes_out_row, in_modules, out_modules, in_fits, out_fits, begins_in}
+use Rattle.core_steps.proofs.GoesIn.{goes_in_row, goes_out_row, goes_in_modules, goes_out_modules, in_fits, out_fits}
+use Rattle.core_steps.proofs.InsideTags.{begins_in}
 use Rattle.std.proofs.lemmas.Bool.Decides.{nat_tests}
 use Rattle.std.proofs.lemmas.Bool.{cases_eq, cases_lt}
 use Rattle.std.proofs.lemmas.List.{get_or-set_same, get_or-set_other, length-set, get_or_past, set-get_or}
@@ -150,7 +151,7 @@ unfolding state_with
 next_at s cpu op ops done core below ready free =
     next s.shape s.sections (inside_at s.modules cpu) s.machine.places (places_fit s.shape s.machine s.words (runs_of s.modules) (list_parts 0 [] s.modules.list) core.safe) core.machine.places (hand_at s.machine cpu) ops ready.2
     s.machine.waiting (scene_at s.modules cpu) op done refl ready.0 ready.1 free
-    (λ section index has in_section inside. let b = begins_in s core cpu below section index has in_section inside in record { allowed = b.0; below = b.1 })
+    (λ section index has in_section inside. let b = begins_in s core cpu below section index in_section inside in record { allowed = b.0; below = b.1 })
 
 -- the machine, its words and its modules after a step, by the ops that wait
 abbrev after_ops : ℕ → CoreState → ℕ → List Op → ℕ → List Part
@@ -214,8 +215,8 @@ module _ (s : CoreState) (cpu : ℕ) (core : IsCore s) (below : cpu < s.shape.cp
       rw (stay_if s.modules cpu (done == 0) (clear_step one s.machine.places) _ refl (stay_if s.modules cpu (done == 1) (Write two (put_down (hand_at s.machine cpu)) (in_hand (held_at s.machine.places two))) (put_step one (hand_at s.machine cpu)) refl refl)) core.modules
   modules_op (Trim key bytes) ops done ready free =
       rw (stay_if s.modules cpu (done == 0) (clear_step key s.machine.places) _ refl (stay_if s.modules cpu (done == 1) (SubtractBytes bytes) (put_step key (hand_at s.machine cpu)) refl refl)) core.modules
-  modules_op (Enter section) ops done ready free = let first : done ≡ 0 = omega (arith, ready.0.within) in in_modules s core cpu below section ready.1.has_section (free first)
-  modules_op (Leave section) ops done ready free = let first : done ≡ 0 = omega (arith, ready.0.within) in out_modules s core cpu below section ready.1.has_section (free first)
+  modules_op (Enter section) ops done ready free = let first : done ≡ 0 = omega (arith, ready.0.within) in goes_in_modules s core cpu below section ready.1.has_section (free first)
+  modules_op (Leave section) ops done ready free = let first : done ≡ 0 = omega (arith, ready.0.within) in goes_out_modules s core cpu below section ready.1.has_section (free first)
   modules_op (Load section) ops done ready free = elim ready.1 [ ]
   modules_op (Unload section) ops done ready free = elim ready.1 [ ]
   modules_op Clean ops done ready free = elim ready.1 [ ]
@@ -362,7 +363,7 @@ module _ (s : CoreState) (cpu : ℕ) (core : IsCore s) (below : cpu < s.shape.cp
 
   tag_fits : (op : Op) → IsOp s.sections op → first_refusal s.machine.places s.machine.waiting (scene_at s.modules cpu) op ≡ None → TagFits op (inside_at s.modules cpu)
   tag_fits (Open key section index size) is free =
-      let b = begins_in s core cpu below section index is.has_section is.in_section (running_first s.machine.places s.machine.waiting (inside_at s.modules cpu) key section free) in
+      let b = begins_in s core cpu below section index is.in_section (running_first s.machine.places s.machine.waiting (inside_at s.modules cpu) key section free) in
       omega (arith, b.1, core.shape.few_tags)
   tag_fits (Close key) is free = tt
   tag_fits (Split key parts first) is free = tt
