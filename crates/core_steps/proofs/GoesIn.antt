@@ -23,7 +23,7 @@ use Rattle.core_steps.specs.declared.step.WordStep.TheVariants.{GoIn, GoOut}
 use Rattle.core_steps.specs.Machine.{hand_at, run_at, is_run, enter_refusal, leave_refusal}
 use Rattle.core_steps.specs.Modules.{ModuleTable, goes_in, goes_out, inside_at, modules_after, scene_at, section_len, with_inside}
 use Rattle.core_steps.specs.CoreState.{AreModules, CoreState, EntryFits, IsCore, RunFits, HasUserLeft, ListFits, runs_in, runs_of, state_of, state_with, state_after}
-use Rattle.core_steps.proofs.InsideFacts.{put_in, taken_out}
+use Rattle.core_steps.proofs.InsideFacts.{IsInside, put_in, taken_out}
 use Rattle.core_steps.proofs.RunsTold.{own_part, list_becomes, own_becomes, safe_after, run_entry, LoadedEntry, loaded_is, none_on, user_left, has_user}
 
 -- ---- when a CPU may go in and out
@@ -51,18 +51,14 @@ may_enter ms cpu section none = free ms.manager.under_way none
     free true none = absurd (cc)
     free false none = named (loaded_entry section ms.list) refl none
 
-pub record MayLeave (ms : ModuleTable) (cpu section : ℕ) : Type 0 where
-  pub run : Run
-  pub is : run_at (inside_at ms cpu) section ≡ Some run
-
-pub may_leave : (ms : ModuleTable) (cpu section : ℕ) → leave_refusal (scene_at ms cpu) section ≡ None → MayLeave ms cpu section
+pub may_leave : (ms : ModuleTable) (cpu section : ℕ) → leave_refusal (scene_at ms cpu) section ≡ None → IsInside (inside_at ms cpu) section
 may_leave ms cpu section none = free ms.manager.under_way none
   where
-    slot : (o : Option Run) → run_at (inside_at ms cpu) section ≡ o → (if not (is_run o) then Some (NotRunning section) else None) ≡ None → MayLeave ms cpu section
+    slot : (o : Option Run) → run_at (inside_at ms cpu) section ≡ o → (if not (is_run o) then Some (NotRunning section) else None) ≡ None → IsInside (inside_at ms cpu) section
     slot None is none = absurd (cc)
     slot (Some r) is none = record { run = r; is = is }
 
-    free : (held : Bool) → (if held then Some ListHeld else (if not (is_run (run_at (inside_at ms cpu) section)) then Some (NotRunning section) else None)) ≡ None → MayLeave ms cpu section
+    free : (held : Bool) → (if held then Some ListHeld else (if not (is_run (run_at (inside_at ms cpu) section)) then Some (NotRunning section) else None)) ≡ None → IsInside (inside_at ms cpu) section
     free true none = absurd (cc)
     free false none = slot (run_at (inside_at ms cpu) section) refl none
 

@@ -55,3 +55,8 @@ pub stands_at : (inside : List (Option Run)) (front : List Run) (r : Run) (back 
 stands_at inside front r back is =
     let c : Contains (runs_in inside) r = subst (λ (rs : List Run). Contains rs r) (sym is) (Contains-append_right front (r ∷ back) r (0, omega arith, refl)) in
     slot_of inside c.0 r c.1 c.2
+
+-- the CPU is inside the section's module
+pub record IsInside (inside : List (Option Run)) (section : ℕ) : Type 0 where
+  pub run : Run
+  pub is : run_at inside section ≡ Some run

@@ -17,13 +17,9 @@ use Rattle.core_steps.specs.declared.op.StepRefused.TheVariants.{KeyUsed, NotRun
 use Rattle.core_steps.specs.Machine.{Waiting, is_used, open_refusal, run_at, is_outside, is_run, kernel_tag, module_tag, tag_in}
 use Rattle.core_steps.specs.Modules.{inside_at, section_len}
 use Rattle.core_steps.specs.CoreState.{CoreState, IsCore, IsOp, TagFits, runs_of}
-use Rattle.core_steps.proofs.InsideFacts.{taken_out}
+use Rattle.core_steps.proofs.InsideFacts.{IsInside, taken_out}
 
 -- ---- the tag of an allocation
-
-pub record IsInside (inside : List (Option Run)) (section : ℕ) : Type 0 where
-  pub run : Run
-  pub is : run_at inside section ≡ Some run
 
 -- the section is the kernel's, or the CPU is inside its module
 pub not_outside : (section : ℕ) (inside : List (Option Run)) → is_outside section inside ≡ false → (section ≡ 0) ⊎ ((section == 0) ≡ false) × IsInside inside section
