@@ -1,0 +1,33 @@
+use Rattle.std.proofs.Common.{OnOk, OnErr, IfOk, Result, Ok, Err, ◌≡◌, ◌+◌, ◌<◌, ℕ}
+use Rattle.tag_model.specs.StepRules.{StepsWith}
+use Rattle.core_steps.specs.declared.op.Actor.TheVariants as actor
+use Rattle.core_steps.specs.declared.op.Event.{Event}
+use Rattle.core_steps.specs.declared.op.StepRefused.{StepRefused}
+use Rattle.core_steps.specs.CoreState.{CoreState, IsCore, refused, stepped, event_of, state_after, reads_of}
+use Rattle.core_steps.specs.Release.{IfReleases}
+use Rattle.core_steps.specs.StepsLeft.{steps_left}
+use Rattle.core_steps.proofs.Kept.{Answers, result_none}
+use Rattle.core_steps.proofs.ManagerRow.{manager_row}
+use Rattle.core_steps.proofs.ManagerLeft.{manager_left}
+use Rattle.core_steps.proofs.ManagerRelease.{manager_releases}
+use Rattle.core_steps.proofs.machine.Core.go.Goals as goal
+
+module _ (s next : CoreState) (core : IsCore s) where
+  row : (reads : ℕ) (r : Result Event StepRefused) → Answers (refused s actor.Manager) (event_of s actor.Manager) r → OnOk r (next ≡ stepped s actor.Manager)
+      → OnOk r (StepsWith s.shape (state_after reads s) (state_after (reads + reads_of s actor.Manager) next))
+  row reads (Ok e) answer ok = rw ok (manager_row s core (result_none _ _ e answer) reads)
+  row reads (Err e) answer ok = tt
+
+  left : (r : Result Event StepRefused) → Answers (refused s actor.Manager) (event_of s actor.Manager) r → OnOk r (next ≡ stepped s actor.Manager) → OnOk r (steps_left next actor.Manager < steps_left s actor.Manager)
+  left (Ok e) answer ok = rw ok (manager_left s core (result_none _ _ e answer))
+  left (Err e) answer ok = tt
+
+  released : (r : Result Event StepRefused) → Answers (refused s actor.Manager) (event_of s actor.Manager) r → IfOk r (IfReleases s)
+  released (Ok e) answer = told e (result_none _ _ e answer) answer
+    where
+      told : (e : Event) → refused s actor.Manager ≡ None → Answers (refused s actor.Manager) (event_of s actor.Manager) (Ok e) → IfReleases s e
+      told e none answer = cc
+  released (Err e) answer = tt
+
+pub returns-in-Manager-clause-row : goal.returns-in-Manager-clause-row
+returns-in-Manager-clause-row c = λ reads. row c.args.self.now c.manage.new.self c.tell.ensures reads c.manage.result c.manage.ensures.answer c.manage.ensures.ok
