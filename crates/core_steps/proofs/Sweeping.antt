@@ -1,5 +1,5 @@
 -- What a step of the manager finds: the module that it marks dead is loaded, and what a sweep reads is there.
-use Rattle.std.proofs.Common.{◌≡◌, ℕ, ◌+◌, ◌*◌, ◌<◌, ◌==◌, ◌&&◌, List, [], ◌∷◌, Option, Some, None, IsSomeAnd, MatchOption, IsTrue, length, sym, subst, arith, Bool, true}
+use Rattle.std.proofs.Common.{◌≡◌, ℕ, ◌+◌, ◌*◌, ◌<◌, ◌==◌, ◌&&◌, List, [], ◌∷◌, Option, Some, None, IsSomeAnd, MatchOption, length, sym, subst, arith, Bool, true}
 use Rattle.std.specs.List.{list_any}
 use Rattle.std.specs.Option.{option_map}
 use Rattle.tag_model.specs.declared.shape.Shape.{Shape}

@@ -110,6 +110,7 @@ impl ModuleTable {
         ensures value { result.now ≡ self.now.list }
         ensures holds { IsList self.now.list }
     {
+        // The book tells what holds of the list.
         let _book = self.list.book();
         &self.list
     }

@@ -1,10 +1,9 @@
 //! The steps of each op, in order.
 
-ghost use Rattle.std.specs.Prelude.{◌≡◌, ◌+◌, ◌*◌, ◌^◌, ◌<◌, ◌≤◌, ◌≢◌, length};
-ghost use Rattle.tag_model.specs.declared.state.Tag.{Tag};
+ghost use Rattle.std.specs.Prelude.{◌≡◌, ◌+◌, ◌*◌, ◌^◌, ◌<◌, ◌≤◌, length};
 ghost use Rattle.tag_model.specs.StepRules.{without_call};
 ghost use Rattle.core_steps.specs.declared.op.TheConstants.{KEY_END};
-ghost use Rattle.core_steps.specs.Machine.{step_of, open_step, close_step, split_step, part_key, share_step, share_of, rest_of, swap_step, trim_step, clear_step, put_step, in_hand, put_down, bytes_in, step_count, words_after, hand_after, places_after, CanTake, KeysFit, HasCall, held_at};
+ghost use Rattle.core_steps.specs.Machine.{step_of, open_step, close_step, split_step, part_key, share_step, share_of, rest_of, swap_step, trim_step, clear_step, put_step, in_hand, put_down, bytes_in, step_count, words_after, hand_after, places_after, CanTake, KeysFit, HasCall, held_at, tag_in};
 ghost use Rattle.core_steps.specs.CoreState.{SectionsFit, TagFits};
 
 use crate::inside::Inside;
@@ -82,12 +81,7 @@ pub fn next_step(
             section,
             index,
             size,
-        } => match done {
-            0 => WordStep::BeginAllocation {
-                tag: inside.tag(section, index),
-            },
-            _ => later_open_step(key, size, done, hand),
-        },
+        } => open_step(key, section, index, size, done, hand, inside),
         Op::Close { key } => close_step(key, done, hand, places),
         Op::Split { key, parts, first } => split_step(key, parts, first, done, hand, places),
         Op::Swap { one, two } => swap_step(one, two, done, hand, places),
@@ -98,12 +92,23 @@ pub fn next_step(
     }
 }
 
-/// The steps of an allocation behind its first.
-fn later_open_step(key: u32, size: u64, done: u64, hand: Option<Hand>) -> WordStep
-    requires { done ≢ 0 }
-    ensures { (tag : Tag) → result ≡ open_step key tag size done hand }
+fn open_step(
+    key: u32,
+    section: u32,
+    index: u32,
+    size: u64,
+    done: u64,
+    hand: Option<Hand>,
+    inside: &Inside,
+) -> WordStep
+    requires section { section < length inside.now }
+    requires number { done ≡ 0 → (tag_in inside.now section index).number < 2 ^ 32 }
+    ensures { result ≡ open_step key (tag_in inside.now section index) size done hand }
 {
     match done {
+        0 => WordStep::BeginAllocation {
+            tag: inside.tag(section, index),
+        },
         1 => WordStep::AddBytes { size },
         _ => put_step(key, hand),
     }

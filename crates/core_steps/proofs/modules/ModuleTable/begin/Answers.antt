@@ -1,6 +1,6 @@
-use Rattle.std.proofs.Common.{◌≡◌, MatchOption, Ok, Err, sym, ap, subst, ◌∙◌}
+use Rattle.std.proofs.Common.{◌≡◌, Ok, Err}
 use Rattle.core_list.specs.ListState.{load_refusal}
-use Rattle.core_steps.specs.Modules.{load_refused, manager_first}
+use Rattle.core_steps.specs.Modules.{load_refused}
 use Rattle.core_steps.proofs.Sweeping.{match_mapped}
 use Rattle.core_steps.proofs.modules.ModuleTable.begin.Goals as goal
 

@@ -1,4 +1,4 @@
-use Rattle.std.proofs.Common.{◌≡◌, sym, ap, ◌∙◌}
+use Rattle.std.proofs.Common.{sym, ap, ◌∙◌}
 use Rattle.core_list.specs.ListState.{ListState, next_of}
 use Rattle.core_steps.proofs.Sweeping.{word_is_there}
 use Rattle.core_steps.proofs.modules.ModuleTable.sweep_on.Goals as goal
