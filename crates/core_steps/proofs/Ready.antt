@@ -97,7 +97,6 @@ others_ready sections places next hand (Trim key bytes ∷ ops) done r keeps = (
   r.1,
   r.2,
 )
-
 others_ready sections places next hand (Enter section ∷ ops) done r keeps = r
 others_ready sections places next hand (Leave section ∷ ops) done r keeps = r
 others_ready sections places next hand (Load section ∷ ops) done r keeps = r
@@ -120,7 +119,6 @@ ready_first sections places (Swap one two ∷ ops) all =
     (record { within = omega arith; start = λ _. refl; in_hand = λ h. absurd (omega arith); first = λ h. absurd (omega arith); second = λ e. absurd (omega arith) }, all.0, all.1)
 ready_first sections places (Trim key bytes ∷ ops) all =
     (record { within = omega arith; start = λ _. refl; in_hand = λ h. absurd (omega arith); more = λ e. absurd (omega arith); place = λ h. absurd (omega arith) }, all.0, all.1)
-
 ready_first sections places (Enter section ∷ ops) all = (waiting_first, all.0, all.1)
 ready_first sections places (Leave section ∷ ops) all = (waiting_first, all.0, all.1)
 ready_first sections places (Load section ∷ ops) all = (waiting_first, all.0, all.1)

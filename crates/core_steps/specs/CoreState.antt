@@ -184,7 +184,7 @@ CanStep m ms words cpu (op ∷ ops) done =
     let step = step_of op done (hand_at m cpu) m.places (inside_at ms cpu) in
     KeysFit op × (done < step_count op) × HasCall (hand_at m cpu) × SectionsFit op (length (inside_at ms cpu))
     × (refusal_in m (scene_at ms cpu) (op ∷ ops) done ≡ None
-      → CanTake step (hand_at m cpu) (length (words_at words cpu)) (length m.places) × ListFits step ms cpu × (done ≡ 0 → TagFits op (inside_at ms cpu)))
+    → CanTake step (hand_at m cpu) (length (words_at words cpu)) (length m.places) × ListFits step ms cpu × (done ≡ 0 → TagFits op (inside_at ms cpu)))
 
 -- what the CPU's next step reads and writes is there
 pub record CanGo (m : Machine) (ms : ModuleTable) (all : List (List ℕ)) (cpu : ℕ) : Type 0 where

@@ -1,6 +1,6 @@
 //! Laws of every core. The functions do nothing: what they promise are facts of the definitions.
 
-ghost use Rattle.std.specs.Prelude.{◌≡◌, ℕ, ◌+◌, ◌-◌, ◌*◌, ◌<◌, ◌==◌, if◌then◌else◌, nat_lt, List, [], ◌∷◌, Some, None, replicate};
+ghost use Rattle.std.specs.Prelude.{◌≡◌, ℕ, ◌+◌, ◌-◌, ◌*◌, ◌<◌, ◌==◌, if◌then◌else◌, nat_lt, ◌≤◌, List, [], ◌∷◌, Some, None, true, false, length, replicate};
 ghost use Rattle.tag_model.specs.Laws.{live_of};
 ghost use Rattle.tag_model.specs.Reference.{live_total};
 ghost use Rattle.tag_model.specs.Wrap.{wrap};
@@ -10,10 +10,14 @@ ghost use Rattle.tag_model.specs.declared.state.Kind.{Kind};
 ghost use Rattle.tag_model.specs.declared.state.Kind.TheVariants.{Bytes, Calls};
 ghost use Rattle.tag_model.specs.declared.state.Tag.{Tag};
 ghost use Rattle.core_steps.specs.declared.op.Op.{Op};
-ghost use Rattle.core_steps.specs.declared.op.Op.TheVariants.{Open, Close, Split, Swap, Trim};
+ghost use Rattle.core_steps.specs.declared.op.Op.TheVariants.{Open, Close, Split, Swap, Trim, Enter, Leave, Load, Unload, Clean};
+ghost use Rattle.module_area.specs.declared.entry.Entry.{Entry};
+ghost use Rattle.tag_model.specs.StepRules.{dead_ids};
+ghost use Rattle.core_list.specs.ListState.{loaded_entry, records_of, sweep_steps, tags_of};
+ghost use Rattle.core_steps.specs.Modules.{inside_at};
 ghost use Rattle.core_steps.specs.declared.op.Actor.TheVariants as actor;
 ghost use Rattle.core_steps.specs.Machine.{hand_at, held_at, waiting_at, step_count, moves_of_step};
-ghost use Rattle.core_steps.specs.CoreState.{CoreState, IsCore, refused, word_state, total_of};
+ghost use Rattle.core_steps.specs.CoreState.{CoreState, IsCore, refused, stepped, word_state, total_of};
 ghost use Rattle.core_steps.specs.Laws.{Begins, waits_for, after_steps, moves_of_run, call_move};
 
 /// An op whose first step isn't refused takes just as many steps as are said of it, none of which is refused, and
@@ -24,6 +28,10 @@ pub fn step_counts_are_exact()
     ensures split { (key parts first : ℕ) → step_count (Split key parts first) ≡ 2 * parts }
     ensures swap { (one two : ℕ) → step_count (Swap one two) ≡ 3 }
     ensures trim { (key bytes : ℕ) → step_count (Trim key bytes) ≡ 3 }
+    ensures enter { (section : ℕ) → step_count (Enter section) ≡ 1 }
+    ensures leave { (section : ℕ) → step_count (Leave section) ≡ 1 }
+    // A load is over with its one step.
+    ensures load { (s : CoreState) (section : ℕ) (ops : List Op) → s.modules.manager ≡ record { ops = Load section ∷ ops; under_way = false } → (stepped s actor.Manager).modules.manager ≡ record { ops = ops; under_way = false } }
     ensures under_way { (s : CoreState) (cpu i : ℕ) (op : Op) (ops : List Op) → IsCore s → Begins s cpu op ops → i < step_count op → waiting_at (after_steps s cpu i).machine cpu ≡ waits_for op ops i }
     ensures unrefused { (s : CoreState) (cpu i : ℕ) (op : Op) (ops : List Op) → IsCore s → Begins s cpu op ops → i < step_count op → refused (after_steps s cpu i) (actor.Cpu cpu) ≡ None }
     ensures ended { (s : CoreState) (cpu : ℕ) (op : Op) (ops : List Op) → IsCore s → Begins s cpu op ops → waiting_at (after_steps s cpu (step_count op)).machine cpu ≡ record { ops = ops; done = 0 } }
@@ -40,8 +48,8 @@ pub fn quiet_totals_are_those_of_the_live_list()
 pub fn a_split_adds_calls_and_no_bytes()
     // Whatever other CPUs do in between, its first step counts nothing, and each later one with the hand's tag a
     // call while calls are added.
-    ensures first_step { (s : CoreState) (cpu key parts first : ℕ) (ops : List Op) → waiting_at s.machine cpu ≡ waits_for (Split key parts first) ops 0 → moves_of_step s.machine cpu ≡ [] }
-    ensures later_steps { (s : CoreState) (cpu key parts first done : ℕ) (hand : Hand) (ops : List Op) → IsCore s → waiting_at s.machine cpu ≡ waits_for (Split key parts first) ops done → hand_at s.machine cpu ≡ Some hand → moves_of_step s.machine cpu ≡ (if nat_lt done parts then call_move cpu hand.tag ∷ [] else []) }
+    ensures first_step { (s : CoreState) (cpu key parts first : ℕ) (ops : List Op) → waiting_at s.machine cpu ≡ waits_for (Split key parts first) ops 0 → moves_of_step s.machine (inside_at s.modules cpu) cpu ≡ [] }
+    ensures later_steps { (s : CoreState) (cpu key parts first done : ℕ) (hand : Hand) (ops : List Op) → IsCore s → waiting_at s.machine cpu ≡ waits_for (Split key parts first) ops done → hand_at s.machine cpu ≡ Some hand → moves_of_step s.machine (inside_at s.modules cpu) cpu ≡ (if nat_lt done parts then call_move cpu hand.tag ∷ [] else []) }
     // All its steps, one after another.
     ensures moves { (s : CoreState) (cpu key parts first size : ℕ) (tag : Tag) (ops : List Op) → IsCore s → Begins s cpu (Split key parts first) ops → held_at s.machine.places key ≡ held.Counted tag size → moves_of_run s (replicate (2 * parts) (actor.Cpu cpu)) ≡ replicate (parts - 1) (call_move cpu tag) }
     ensures bytes { (s : CoreState) (cpu key parts first t : ℕ) (ops : List Op) → IsCore s → Begins s cpu (Split key parts first) ops → live_total Bytes t (live_of (word_state (after_steps s cpu (2 * parts)))) ≡ live_total Bytes t (live_of (word_state s)) }

@@ -11,12 +11,12 @@ ghost use Rattle.core_steps.specs.Modules.{inside_at, scene_at};
 ghost use Rattle.core_steps.specs.CoreState.{CanGo, words_after_step, modules_after_step, with_op, words_at, total_of};
 ghost use Rattle.tag_model.specs.declared.state.Held.TheVariants as held;
 
+use crate::modules::ModuleTable;
 use crate::op::{Actor, Event, KEY_END, MAX_QUEUED, Op, QueueError, StepRefused};
 use crate::pending::Pending;
 use crate::refusal::first_refusal;
 use crate::step::{self, next_step};
 use crate::words::CpuWords;
-use crate::modules::ModuleTable;
 use module_area::Book;
 use std::alloc::{AllocError, Global};
 use std::marker::Model;
@@ -233,6 +233,21 @@ impl Core {
         // Words stay the sums of the moves.
         ensures moved { (moves : List Move) → HasMoved self.old moves → OnOk result (self.new ≡ moved_on self.old actor moves) }
     {
+        let told = self.step(actor);
+        self.tell();
+        told
+    }
+
+    fn step(&mut self, actor: Actor) -> Result<Event, StepRefused>
+        ensures answer { MatchOption (refused self.old actor) (result ≡ Ok (event_of self.old actor)) (λ r. result ≡ Err r) }
+        ensures ok { OnOk result (self.new ≡ stepped self.old actor) }
+        ensures err { OnErr result (self.new ≡ self.old) }
+        ensures row { (reads : ℕ) → OnOk result (StepsWith self.old.shape (state_after reads self.old) (state_after (reads + reads_of self.old actor) self.new)) }
+        ensures left { OnOk result (steps_left self.new actor < steps_left self.old actor) }
+        ensures released { IfOk result (IfReleases self.old) }
+        ensures moved { (moves : List Move) → HasMoved self.old moves → OnOk result (self.new ≡ moved_on self.old actor moves) }
+    {
+        self.tell();
         match actor {
             Actor::Cpu(cpu) => self.go_on(cpu),
             Actor::Manager => self.manage(),

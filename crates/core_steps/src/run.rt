@@ -2,7 +2,8 @@
 
 ghost use Rattle.std.specs.Prelude.{◌≡◌, ℕ, ◌<◌, ◌≤◌, length, take, IfSome, IsSome, None, slice_get};
 ghost use Rattle.tag_model.specs.Laws.{Safe};
-ghost use Rattle.core_steps.specs.CoreState.{run_of, refused, word_state};
+ghost use Rattle.core_steps.specs.CoreState.{run_of, refused, event_of, word_state};
+ghost use Rattle.core_steps.specs.Release.{IfReleases};
 
 use crate::machine::Core;
 use crate::op::Actor;
@@ -14,6 +15,8 @@ pub fn run_steps(core: &mut Core, actors: &[Actor]) -> usize
     // None of these steps was refused, and the next one is, if there is one.
     ensures taken { (i : ℕ) → i < result → IfSome (slice_get actors.now i) (λ actor. refused (run_of core.old (take i actors.now)) actor ≡ None) }
     ensures stopped { IfSome (slice_get actors.now result) (λ actor. IsSome (refused core.new actor)) }
+    // A module is released only where it is dead, and no place and no hand names it.
+    ensures released { (i : ℕ) → i < result → IfSome (slice_get actors.now i) (λ actor. IfReleases (run_of core.old (take i actors.now)) (event_of (run_of core.old (take i actors.now)) actor)) }
     // Every state on the way is safe.
     ensures safe { (i : ℕ) → i ≤ result → Safe core.old.shape (word_state (run_of core.old (take i actors.now))) }
 {

@@ -1,5 +1,6 @@
 use Rattle.core_steps.proofs.Steps.{under_way, ended, free_in}
 use Rattle.core_steps.specs.Laws.{after_steps}
+use Rattle.core_steps.specs.Modules.{scene_at}
 use Rattle.core_steps.proofs.laws.step_counts_are_exact.Goals as goal
 
 pub returns-clause-under_way : goal.returns-clause-under_way
@@ -7,7 +8,7 @@ returns-clause-under_way c s cpu i op ops core begins within = (under_way s cpu 
 
 pub returns-clause-unrefused : goal.returns-clause-unrefused
 returns-clause-unrefused c s cpu i op ops core begins within =
-    let u = under_way s cpu op ops i core begins within in free_in (after_steps s cpu i).machine cpu op ops i u.waits u.free
+    let u = under_way s cpu op ops i core begins within in free_in (after_steps s cpu i).machine (scene_at (after_steps s cpu i).modules cpu) cpu op ops i u.waits u.free
 
 pub returns-clause-ended : goal.returns-clause-ended
 returns-clause-ended c s cpu op ops core begins = ended s cpu op ops core begins

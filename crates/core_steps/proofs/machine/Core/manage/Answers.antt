@@ -1,9 +1,9 @@
-use Rattle.std.proofs.Common.{OnOk, OnErr, Result, Ok, Err, ◌≡◌}
+use Rattle.std.proofs.Common.{OnOk, OnErr, Result, Ok, Err, ◌≡◌, List, ℕ, subst}
 use Rattle.core_steps.specs.declared.op.Actor.TheVariants as actor
 use Rattle.core_steps.specs.declared.op.Event.{Event}
 use Rattle.core_steps.specs.declared.op.StepRefused.{StepRefused}
 use Rattle.core_steps.specs.Machine.{machine_of}
-use Rattle.core_steps.specs.Modules.{ModuleTable, managed}
+use Rattle.core_steps.specs.Modules.{ModuleTable, managed, manager_event, manager_refusal}
 use Rattle.core_steps.specs.CoreState.{CoreState, IsCore, refused, event_of}
 use Rattle.core_steps.proofs.Kept.{Answers, result_none}
 use Rattle.core_steps.proofs.Managed.{can_manage}
@@ -22,4 +22,5 @@ manage-requires c = rw c.as_slice.ensures.value (can_manage (record { shape = c.
 pub invariant_of-self : goal.invariant_of-self
 invariant_of-self c =
     after (record { shape = c.self.inside.shape; sections = c.self.inside.sections; machine = machine_of c.self.inside.hands.items c.self.inside.places.items c.self.inside.waiting.items; words = c.self.inside.words.items; modules = c.self.inside.modules }) c.manage.new.self c.manage.result c.self.invariant
-    (rw c.as_slice.ensures.value at c.manage.ensures.answer) (rw c.as_slice.ensures.value at c.manage.ensures.ok) c.manage.ensures.err
+    (subst (λ (words : List (List ℕ)). Answers (manager_refusal c.self.inside.sections c.self.inside.modules) (manager_event c.self.inside.shape words c.self.inside.modules) c.manage.result) c.as_slice.ensures.value c.manage.ensures.answer)
+    (subst (λ (words : List (List ℕ)). OnOk c.manage.result (c.manage.new.self ≡ managed c.self.inside.shape c.self.inside.sections words c.self.inside.modules)) c.as_slice.ensures.value c.manage.ensures.ok) c.manage.ensures.err

@@ -1,5 +1,6 @@
-use Rattle.std.proofs.Common.{OnOk, OnErr, IfOk, Result, Ok, Err, ◌≡◌, ◌+◌, ◌<◌, ℕ}
+use Rattle.std.proofs.Common.{OnOk, OnErr, IfOk, Result, Ok, Err, ◌≡◌, ◌+◌, ◌<◌, ℕ, subst, sym, Option, None}
 use Rattle.tag_model.specs.StepRules.{StepsWith}
+use Rattle.core_steps.specs.declared.op.Actor.{Actor}
 use Rattle.core_steps.specs.declared.op.Actor.TheVariants as actor
 use Rattle.core_steps.specs.declared.op.Event.{Event}
 use Rattle.core_steps.specs.declared.op.StepRefused.{StepRefused}
@@ -10,7 +11,7 @@ use Rattle.core_steps.proofs.Kept.{Answers, result_none}
 use Rattle.core_steps.proofs.ManagerRow.{manager_row}
 use Rattle.core_steps.proofs.ManagerLeft.{manager_left}
 use Rattle.core_steps.proofs.ManagerRelease.{manager_releases}
-use Rattle.core_steps.proofs.machine.Core.go.Goals as goal
+use Rattle.core_steps.proofs.machine.Core.step.Goals as goal
 
 module _ (s next : CoreState) (core : IsCore s) where
   row : (reads : ℕ) (r : Result Event StepRefused) → Answers (refused s actor.Manager) (event_of s actor.Manager) r → OnOk r (next ≡ stepped s actor.Manager)
@@ -22,12 +23,22 @@ module _ (s next : CoreState) (core : IsCore s) where
   left (Ok e) answer ok = rw ok (manager_left s core (result_none _ _ e answer))
   left (Err e) answer ok = tt
 
+  event_is : (e : Event) → refused s actor.Manager ≡ None → Answers (refused s actor.Manager) (event_of s actor.Manager) (Ok e) → event_of s actor.Manager ≡ e
+  event_is e none answer = let a : Answers None (event_of s actor.Manager) (Ok e) = subst (λ (o : Option StepRefused). Answers o (event_of s actor.Manager) (Ok e)) none answer in cc
+
   released : (r : Result Event StepRefused) → Answers (refused s actor.Manager) (event_of s actor.Manager) r → IfOk r (IfReleases s)
-  released (Ok e) answer = told e (result_none _ _ e answer) answer
-    where
-      told : (e : Event) → refused s actor.Manager ≡ None → Answers (refused s actor.Manager) (event_of s actor.Manager) (Ok e) → IfReleases s e
-      told e none answer = cc
+  released (Ok e) answer = let none = result_none _ _ e answer in subst (IfReleases s) (event_is e none answer) (manager_releases s core none)
   released (Err e) answer = tt
 
 pub returns-in-Manager-clause-row : goal.returns-in-Manager-clause-row
-returns-in-Manager-clause-row c = λ reads. row c.args.self.now c.manage.new.self c.tell.ensures reads c.manage.result c.manage.ensures.answer c.manage.ensures.ok
+returns-in-Manager-clause-row c = λ reads.
+    subst (λ (a : Actor). OnOk c.manage.result (StepsWith c.args.self.now.shape (state_after reads c.args.self.now) (state_after (reads + reads_of c.args.self.now a) c.manage.new.self))) (sym c.in-Manager.is)
+    (row c.args.self.now c.manage.new.self c.tell.ensures reads c.manage.result c.manage.ensures.answer c.manage.ensures.ok)
+
+pub returns-in-Manager-clause-left : goal.returns-in-Manager-clause-left
+returns-in-Manager-clause-left c =
+    subst (λ (a : Actor). OnOk c.manage.result (steps_left c.manage.new.self a < steps_left c.args.self.now a)) (sym c.in-Manager.is)
+    (left c.args.self.now c.manage.new.self c.tell.ensures c.manage.result c.manage.ensures.answer c.manage.ensures.ok)
+
+pub returns-in-Manager-clause-released : goal.returns-in-Manager-clause-released
+returns-in-Manager-clause-released c = released c.args.self.now c.manage.new.self c.tell.ensures c.manage.result c.manage.ensures.answer
