@@ -145,7 +145,7 @@ keeps : (s : CoreState) (by : Cause) (entries : List Entry) (stop : Option Stop)
 keeps s by entries None = tt
 keeps s by entries (Some stop) = tt
 
-sweep_releases : (s : CoreState) → IsCore s → (by : Cause) (x : Sweep) → s.modules.list.sweep ≡ x → IfReleases s (event_of_sweep s.shape s.words s.modules.list by (next_of x))
+pub sweep_releases : (s : CoreState) → IsCore s → (by : Cause) (x : Sweep) → s.modules.list.sweep ≡ x → IfReleases s (event_of_sweep s.shape s.words s.modules.list by (next_of x))
 sweep_releases s core by sweep.None is = tt
 sweep_releases s core by (sweep.Reading left r) is = keeps s by s.modules.list.area.entries (found_at s.shape (word_read s.words r) s.modules.list.sweep)
 sweep_releases s core by (sweep.Done []) is = tt

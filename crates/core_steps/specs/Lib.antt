@@ -5,3 +5,4 @@ pub mod Moved
 pub mod StepsLeft
 pub mod Laws
 pub mod Release
+pub mod Told

@@ -1,7 +1,7 @@
 //! The core: every CPU's words, hand and ops, every place, and the modules, on plain vectors.
 
 ghost use Rattle.tag_model.specs.WordState.{word_place};
-ghost use Rattle.std.specs.Prelude.{[], slice_index, ◌≡◌, ℕ, ◌*◌, ◌+◌, ◌<◌, ◌≤◌, ◌↔◌, length, replicate, MatchOption, IfOk, OnOk, OnErr, IsErrOf, Some, None, slice_get, slice_index_or, slice_set, List, IsTrue};
+ghost use Rattle.std.specs.Prelude.{All, [], slice_index, ◌≡◌, ℕ, ◌*◌, ◌+◌, ◌<◌, ◌≤◌, ◌↔◌, length, replicate, MatchOption, IfOk, OnOk, OnErr, IsErrOf, Some, None, slice_get, slice_index_or, slice_set, List, IsTrue};
 ghost use Rattle.tag_model.specs.Shape.{IsChecked};
 ghost use Rattle.tag_model.specs.StepRules.{StepsWith};
 ghost use Rattle.tag_model.specs.Laws.{Safe};
@@ -158,8 +158,9 @@ fn step_on(
 
 impl Core {
     ghost use Rattle.module_area.specs.Area.{IsBook};
-    ghost use Rattle.core_steps.specs.CoreState.{CoreState, IsCore, IsActor, IsOp, IsManagerOp, IsOpOf, SectionsFitShape, fresh, queued, ops_of, refused, stepped, event_of, reads_of, state_after, word_state, total_of, word_at};
+    ghost use Rattle.core_steps.specs.CoreState.{CoreState, IsCore, IsActor, IsOp, IsManagerOp, IsOpOf, EntryFits, SectionsFitShape, fresh, queued, ops_of, refused, stepped, event_of, reads_of, state_after, word_state, total_of, word_at};
     ghost use Rattle.core_steps.specs.Release.{IfReleases};
+    ghost use Rattle.core_steps.specs.Told.{EventFits};
     ghost use Rattle.core_steps.specs.StepsLeft.{steps_left, cpu_steps_left, manager_steps_left};
     ghost use Rattle.core_steps.specs.Moved.{HasMoved, moved_on};
     ghost use Rattle.tag_model.specs.Moves.{Move};
@@ -230,6 +231,8 @@ impl Core {
         ensures left { OnOk result (steps_left self.new actor < steps_left self.old actor) }
         // A module is released only where it is dead, and no place and no hand names it.
         ensures released { IfOk result (IfReleases self.old) }
+        // What is told names a module's section, and one of its tags.
+        ensures told { IfOk result (EventFits self.old.sections) }
         // Words stay the sums of the moves.
         ensures moved { (moves : List Move) → HasMoved self.old moves → OnOk result (self.new ≡ moved_on self.old actor moves) }
     {
@@ -245,6 +248,7 @@ impl Core {
         ensures row { (reads : ℕ) → OnOk result (StepsWith self.old.shape (state_after reads self.old) (state_after (reads + reads_of self.old actor) self.new)) }
         ensures left { OnOk result (steps_left self.new actor < steps_left self.old actor) }
         ensures released { IfOk result (IfReleases self.old) }
+        ensures told { IfOk result (EventFits self.old.sections) }
         ensures moved { (moves : List Move) → HasMoved self.old moves → OnOk result (self.new ≡ moved_on self.old actor moves) }
     {
         self.tell();
@@ -285,7 +289,11 @@ impl Core {
     pub fn book(&self) -> &Book
         ensures value { result.now ≡ self.now.modules.list.area }
         ensures formed { IsBook result.now }
+        // Its entries are of modules' sections, each with the section's tags, and lie in the shape.
+        ensures entries { All (EntryFits self.now.sections) result.now.entries }
+        ensures within { result.now.first + result.now.tags ≡ self.now.shape.tags }
     {
+        self.tell();
         self.modules.list().book()
     }
 

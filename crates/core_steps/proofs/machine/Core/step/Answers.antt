@@ -6,6 +6,8 @@ use Rattle.core_steps.specs.declared.op.Event.{Event}
 use Rattle.core_steps.specs.declared.op.StepRefused.{StepRefused}
 use Rattle.core_steps.specs.CoreState.{CoreState, IsCore, refused, stepped, event_of, state_after, reads_of}
 use Rattle.core_steps.specs.Release.{IfReleases}
+use Rattle.core_steps.specs.Told.{EventFits}
+use Rattle.core_steps.proofs.ManagerTold.{manager_tells}
 use Rattle.core_steps.specs.StepsLeft.{steps_left}
 use Rattle.core_steps.proofs.Kept.{Answers, result_none}
 use Rattle.core_steps.proofs.ManagerRow.{manager_row}
@@ -30,6 +32,10 @@ module _ (s next : CoreState) (core : IsCore s) where
   released (Ok e) answer = let none = result_none _ _ e answer in subst (IfReleases s) (event_is e none answer) (manager_releases s core none)
   released (Err e) answer = tt
 
+  told : (r : Result Event StepRefused) → Answers (refused s actor.Manager) (event_of s actor.Manager) r → IfOk r (EventFits s.sections)
+  told (Ok e) answer = let none = result_none _ _ e answer in subst (EventFits s.sections) (event_is e none answer) (manager_tells s core none)
+  told (Err e) answer = tt
+
 pub returns-in-Manager-clause-row : goal.returns-in-Manager-clause-row
 returns-in-Manager-clause-row c = λ reads.
     subst (λ (a : Actor). OnOk c.manage.result (StepsWith c.args.self.now.shape (state_after reads c.args.self.now) (state_after (reads + reads_of c.args.self.now a) c.manage.new.self))) (sym c.in-Manager.is)
@@ -42,3 +48,6 @@ returns-in-Manager-clause-left c =
 
 pub returns-in-Manager-clause-released : goal.returns-in-Manager-clause-released
 returns-in-Manager-clause-released c = released c.args.self.now c.manage.new.self c.tell.ensures c.manage.result c.manage.ensures.answer
+
+pub returns-in-Manager-clause-told : goal.returns-in-Manager-clause-told
+returns-in-Manager-clause-told c = told c.args.self.now c.manage.new.self c.tell.ensures c.manage.result c.manage.ensures.answer
