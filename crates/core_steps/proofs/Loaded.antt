@@ -23,11 +23,11 @@ entry_is_found (x ∷ xs) e rising (suc k, within, is) =
     cond-false (x.id == e.id) (Some x) (entry_of xs e.id) other
     ∙ entry_is_found xs e (λ i j d earlier inside. rising (suc i) (suc j) d (omega arith) (omega arith)) (k, omega arith, is)
 
-record LoadedAt (section : ℕ) (e : Entry) : Type 0 where
+pub record LoadedAt (section : ℕ) (e : Entry) : Type 0 where
   pub state : e.state ≡ Loaded
   pub same_section : e.section ≡ section
 
-loaded_at : (section : ℕ) (e : Entry) → is_loaded_as section e ≡ true → LoadedAt section e
+pub loaded_at : (section : ℕ) (e : Entry) → is_loaded_as section e ≡ true → LoadedAt section e
 loaded_at section e is = go e.state refl is
   where
     go : (s : State) → e.state ≡ s → is_loaded_at s e.section section ≡ true → LoadedAt section e

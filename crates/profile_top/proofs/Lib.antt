@@ -2,3 +2,4 @@ pub mod Stepping
 pub mod Totals
 pub mod Lines
 pub mod Serving
+pub mod Numbers

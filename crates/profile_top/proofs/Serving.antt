@@ -1,11 +1,12 @@
 -- What is too long.
-use Rattle.std.proofs.Common.{◌≡◌, ◌≢◌, ℕ, ◌+◌, ◌<◌, ◌≤◌, List, ◌++◌, ap, subst, arith, Option, Some, None, Bool, true, length, length-append, lt-ltb, if◌then◌else◌, nat_lt}
-use Rattle.std.specs.Io.KnownBytes.{Consumes, Appends}
+use Rattle.std.proofs.Common.{◌≡◌, ◌≢◌, ℕ, ◌+◌, ◌<◌, ◌≤◌, List, ◌++◌, ap, subst, arith, Option, Some, None, Bool, true, false, length, length-append, append-nil, lt-ltb, le-ltb, sym, ◌∙◌, if◌then◌else◌, nat_lt}
+use Rattle.std.specs.Io.KnownBytes.{Consumes, Appends, IsAtEnd}
+use Rattle.profile_top.specs.declared.answer.Answer.{Answer}
 use Rattle.outside.specs.Bytes.{Took}
 use Rattle.outside.specs.declared.faults.ReadError.TheVariants.{TooLong}
 use Rattle.profile_top.specs.declared.answer.Mode.{Mode}
 use Rattle.profile_top.specs.declared.answer.TheConstants.{INPUT_LIMIT}
-use Rattle.profile_top.specs.Answers.{answer_of, answer_in, too_long}
+use Rattle.profile_top.specs.Answers.{Gives, answer_of, answer_in, too_long}
 
 at_least : (new : Option (List ℕ)) (input bytes : List ℕ) → Consumes (Some input) new bytes → length bytes ≤ length input
 at_least None input bytes none = absurd none
@@ -29,3 +30,28 @@ pub decided_long : (old new taken taken_after : Option (List ℕ)) (status : ℕ
 decided_long old new taken taken_after status took whole mode input e below =
     let not_five : status ≢ 5 = λ five. omega (arith, five) in
     rw (too_long_is old new took mode input e) (whole not_five)
+
+-- what was read to the end is all that was there
+all_read : (old new : Option (List ℕ)) (read input : List ℕ) → Consumes old new read → IsAtEnd new → old ≡ Some input → read ≡ input
+all_read None new read input is end e = cc
+all_read (Some whole) None read input is end e = absurd is
+all_read (Some whole) (Some rest) read input is end e =
+    let same : whole ≡ input = cc in
+    let all : whole ≡ read = is ∙ ap (λ (l : List ℕ). read ++ l) end ∙ append-nil read in
+    sym all ∙ same
+
+short_answer : (mode : Mode) (input : List ℕ) → length input ≤ INPUT_LIMIT → answer_of mode input ≡ answer_in mode input
+short_answer mode input h = let short : nat_lt INPUT_LIMIT (length input) ≡ false = le-ltb INPUT_LIMIT (length input) h in
+    ap (λ (b : Bool). if b then too_long else answer_in mode input) short
+
+pub decided_read : (old new taken taken_after : Option (List ℕ)) (read : List ℕ) (status : ℕ) (answer : Answer) (words : Option Mode) (asked : Mode) → Consumes old new read → IsAtEnd new → length read ≤ INPUT_LIMIT
+    → words ≡ Some asked → Gives answer (answer_in asked read) → (status ≢ 5 → (status ≡ answer.status) × Appends taken taken_after answer.text.items)
+    → (mode : Mode) (input : List ℕ) → words ≡ Some mode → old ≡ Some input → status < 2 → (status ≡ (answer_of mode input).status) × Appends taken taken_after (answer_of mode input).text
+decided_read old new taken taken_after read status answer words asked consumes end within is_asked gives whole mode input is_mode e below =
+    let not_five : status ≢ 5 = λ five. omega (arith, five) in
+    let same : read ≡ input = all_read old new read input consumes end e in
+    let one : Some asked ≡ Some mode = sym is_asked ∙ is_mode in
+    let modes : asked ≡ mode = cc in
+    let answered : answer_of mode input ≡ answer_in asked read = ap (answer_of mode) (sym same) ∙ short_answer mode read within ∙ ap (λ (m : Mode). answer_in m read) (sym modes) in
+    let w = whole not_five in
+    rw answered (w.0 ∙ gives.status, subst (Appends taken taken_after) gives.text w.1)

@@ -13,7 +13,7 @@ use Rattle.core_steps.specs.CoreState.{CoreState, total_of}
 use Rattle.core_steps.specs.Moved.{kind_at, own_moved, words_moved}
 use Rattle.tag_model.specs.declared.shape.Shape.{Shape}
 use Rattle.allocinfo.specs.declared.rows.Row.{Row}
-use Rattle.profile_top.specs.Printed.{Setting, total_moved, rows_below, words_text, cpu_text, cpu_line}
+use Rattle.profile_top.specs.Printed.{Setting, total_moved, section_rows, words_text, cpu_text, cpu_line}
 use Rattle.profile_top.specs.Schedule.{Played, Shows}
 
 kind_here : (kind : Kind) (t : ℕ) → kind_at (word_place kind t) ≡ kind
@@ -51,17 +51,19 @@ unfolding words_moved
 total_here cpus tags moves kind t h = ap wrap (sum_here tags moves kind t h (range_with_len 0 cpus))
 
 -- one row more
-pub rows_more : (s : Setting) (now : CoreState) (text : List ℕ) (p : Played) (rows : List Row) (i bytes calls : ℕ) → Shows s now text p → i < now.shape.tags → rows ≡ rows_below s p.moves i
-    → bytes ≡ total_of now.words Bytes i → calls ≡ total_of now.words Calls i
-    → rows ++ record { bytes = bytes; calls = calls; section = 0; index = i; kept = false } ∷ [] ≡ rows_below s p.moves (i + 1)
-rows_more s now text p rows i bytes calls shows below so_far b k =
+pub rows_more : (s : Setting) (now : CoreState) (text : List ℕ) (p : Played) (old rows : List Row) (section start i bytes calls : ℕ) → Shows s now text p → start + i < now.shape.tags → rows ≡ old ++ section_rows s p.moves section start i
+    → bytes ≡ total_of now.words Bytes (start + i) → calls ≡ total_of now.words Calls (start + i)
+    → rows ++ record { bytes = bytes; calls = calls; section = section; index = i; kept = false } ∷ [] ≡ old ++ section_rows s p.moves section start (i + 1)
+rows_more s now text p old rows section start i bytes calls shows below so_far b k =
     let tags : now.shape ≡ s.shape = ap (λ (c : CoreState). c.shape) shows.core in
-    let within : i < s.shape.tags = subst (λ (x : Shape). i < x.tags) tags below in
+    let within : start + i < s.shape.tags = subst (λ (x : Shape). start + i < x.tags) tags below in
     let words : now.words ≡ words_moved s.shape.cpus s.shape.tags p.moves = ap (λ (c : CoreState). c.words) shows.core in
-    let bytes_is : bytes ≡ total_moved s.shape.cpus p.moves Bytes i = b ∙ ap (λ (w : List (List ℕ)). total_of w Bytes i) words ∙ total_here s.shape.cpus s.shape.tags p.moves Bytes i within in
-    let calls_is : calls ≡ total_moved s.shape.cpus p.moves Calls i = k ∙ ap (λ (w : List (List ℕ)). total_of w Calls i) words ∙ total_here s.shape.cpus s.shape.tags p.moves Calls i within in
+    let bytes_is : bytes ≡ total_moved s.shape.cpus p.moves Bytes (start + i) = b ∙ ap (λ (w : List (List ℕ)). total_of w Bytes (start + i)) words ∙ total_here s.shape.cpus s.shape.tags p.moves Bytes (start + i) within in
+    let calls_is : calls ≡ total_moved s.shape.cpus p.moves Calls (start + i) = k ∙ ap (λ (w : List (List ℕ)). total_of w Calls (start + i)) words ∙ total_here s.shape.cpus s.shape.tags p.moves Calls (start + i) within in
     rw (so_far, bytes_is, calls_is)
-    (sym (map-range_with_len_more (λ tag. record { bytes = total_moved s.shape.cpus p.moves Bytes tag; calls = total_moved s.shape.cpus p.moves Calls tag; section = 0; index = tag; kept = false }) 0 i i (omega arith)))
+    (append_assoc old (section_rows s p.moves section start i) _
+    ∙ ap (λ (r : List Row). old ++ r)
+    (sym (map-range_with_len_more (λ index. record { bytes = total_moved s.shape.cpus p.moves Bytes (start + index); calls = total_moved s.shape.cpus p.moves Calls (start + index); section = section; index = index; kept = false }) 0 i i (omega arith))))
 
 own_shown : (s : Setting) (now : CoreState) (text : List ℕ) (p : Played) (cpu : ℕ) → Shows s now text p → cpu < now.shape.cpus → get_or now.words cpu [] ≡ own_moved s.shape.tags p.moves cpu
 unfolding words_moved

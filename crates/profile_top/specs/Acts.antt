@@ -1,5 +1,4 @@
 -- What the lines of a schedule ask of the core, and the codes of its refusals.
-use Rattle.std.specs.Prelude.{Option, Some, None, option_and_then}
 use Rattle.core_steps.specs.declared.op.Actor.{Actor}
 use Rattle.core_steps.specs.declared.op.Actor.TheVariants as actor
 use Rattle.core_steps.specs.declared.op.Op.{Op}
@@ -17,33 +16,41 @@ use Rattle.trace.specs.declared.steps.StepOp.TheVariants as step_op
 use Rattle.profile_top.specs.declared.act.Act.{Act}
 use Rattle.profile_top.specs.declared.act.Act.TheVariants as act
 
-abbrev pub actor_of : StepActor → Option Actor
-actor_of (step_actor.Cpu cpu) = Some (actor.Cpu cpu)
-actor_of step_actor.Manager = None
+abbrev pub actor_of : StepActor → Actor
+actor_of (step_actor.Cpu cpu) = actor.Cpu cpu
+actor_of step_actor.Manager = actor.Manager
 
-abbrev pub op_of : StepOp → Option Op
-op_of (step_op.Open key section index size) = Some (op.Open key section index size)
-op_of (step_op.Close key) = Some (op.Close key)
-op_of (step_op.Split key parts first) = Some (op.Split key parts first)
-op_of (step_op.Swap one two) = Some (op.Swap one two)
-op_of (step_op.Trim key bytes) = Some (op.Trim key bytes)
-op_of (step_op.Enter section) = None
-op_of (step_op.Leave section) = None
-op_of (step_op.Load section) = None
-op_of (step_op.Unload section) = None
-op_of step_op.Clean = None
+abbrev pub op_of : StepOp → Op
+op_of (step_op.Open key section index size) = op.Open key section index size
+op_of (step_op.Close key) = op.Close key
+op_of (step_op.Split key parts first) = op.Split key parts first
+op_of (step_op.Swap one two) = op.Swap one two
+op_of (step_op.Trim key bytes) = op.Trim key bytes
+op_of (step_op.Enter section) = op.Enter section
+op_of (step_op.Leave section) = op.Leave section
+op_of (step_op.Load section) = op.Load section
+op_of (step_op.Unload section) = op.Unload section
+op_of step_op.Clean = op.Clean
 
--- what a line asks of the core; none where that isn't built yet
-abbrev pub act_of : StepAct → Option Act
-act_of (step_act.Do who what) = option_and_then (λ a. option_and_then (λ o. Some (act.Do a o)) (op_of what)) (actor_of who)
-act_of (step_act.Go who count) = option_and_then (λ a. Some (act.Go a count)) (actor_of who)
-act_of step_act.Print = Some act.Print
-act_of (step_act.Words section index) = Some (act.Words section index)
+-- what a line asks of the core
+abbrev pub act_of : StepAct → Act
+act_of (step_act.Do who what) = act.Do (actor_of who) (op_of what)
+act_of (step_act.Go who count) = act.Go (actor_of who) count
+act_of step_act.Print = act.Print
+act_of (step_act.Words section index) = act.Words section index
 
 -- the code of a refused step
 abbrev pub code_of : StepRefused → Code
 code_of refused.NoStep = code.NoStep
-code_of (refused.KeyUsed key) = code.KeyUsed key
+code_of refused.ListHeld = code.Held
 code_of (refused.NotLive key) = code.NotLive key
-code_of refused.TooSmall = code.TooSmall
+code_of (refused.KeyUsed key) = code.KeyUsed key
+code_of (refused.NotRunning section) = code.NotRunning section
+code_of (refused.Inside section) = code.Inside section
+code_of (refused.NotLoaded section) = code.NotLoaded section
+code_of (refused.AlreadyLoaded section) = code.AlreadyLoaded section
+code_of (refused.Busy users) = code.Busy users
+code_of refused.Full = code.Full
+code_of refused.NoRoom = code.NoRoom
 code_of refused.Uneven = code.Uneven
+code_of refused.TooSmall = code.TooSmall

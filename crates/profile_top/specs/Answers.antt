@@ -1,21 +1,11 @@
 -- What is written for an input, and the status.
-use Rattle.std.specs.Prelude.{◌≡◌, ℕ, ◌++◌, ◌+◌, ◌==◌, ◌⊎◌, ⊤, Bool, true, false, Vec, Option, Some, None, unwrap_or, Result, Ok, Err, List, [], ◌∷◌, length, codes, decimal, nat_lt, if◌then◌else◌}
+use Rattle.std.specs.Prelude.{◌≡◌, ℕ, ◌++◌, ◌+◌, ◌==◌, ◌⊎◌, ⊤, Bool, Option, Some, None, Result, Ok, Err, List, [], ◌∷◌, length, codes, decimal, nat_lt, if◌then◌else◌}
 use Rattle.std.specs.Str.{bytes_eq}
-use Rattle.std.specs.Global.{Global}
 use Rattle.std.specs.Io.KnownBytes.{Appends, Consumes, IsAtEnd}
 use Rattle.outside.specs.Bytes.{AppendsPrefix}
 use Rattle.tag_section.specs.Section.{names_of}
 use Rattle.text_form.specs.Lines.{lines_of}
-use Rattle.text_form.specs.Words.{word_at}
 use Rattle.trace.specs.declared.code.Code.{Code}
-use Rattle.trace.specs.declared.code.Code.TheVariants as code
-use Rattle.trace.specs.declared.code.TextError.{TextError}
-use Rattle.trace.specs.declared.code.TextError.TheVariants as text
-use Rattle.trace.specs.declared.steps.StepAct.{StepAct}
-use Rattle.trace.specs.declared.steps.StepAct.TheVariants as act
-use Rattle.trace.specs.declared.steps.StepActor.{StepActor}
-use Rattle.trace.specs.declared.steps.StepActor.TheVariants as actor
-use Rattle.trace.specs.declared.steps.StepLine.{StepLine}
 use Rattle.trace.specs.declared.steps.Steps.{Steps}
 use Rattle.trace.specs.declared.traces.Trace.{Trace}
 use Rattle.trace.specs.Codes.{code_text}
@@ -44,41 +34,16 @@ too_long = record { status = 1; text = codes "input too long\n" }
 
 -- ---- `step`
 
--- the number of the first line that has this first word; the first of the lines has the number `number`
-abbrev pub line_with : List ℕ → ℕ → List (List ℕ) → Option ℕ
-line_with word number [] = None
-line_with word number (line ∷ lines) = if bytes_eq (word_at line 0) word then Some number else line_with word (number + 1) lines
-
-abbrev pub is_managers_actor : StepActor → Bool
-is_managers_actor (actor.Cpu cpu) = false
-is_managers_actor actor.Manager = true
-
--- a line of the actor `m`
-abbrev pub is_managers : StepAct → Bool
-is_managers (act.Do who op) = is_managers_actor who
-is_managers (act.Go who count) = is_managers_actor who
-is_managers act.Print = false
-is_managers (act.Words section index) = false
-
-abbrev pub managers_line : List StepLine → Option ℕ
-managers_line [] = None
-managers_line (line ∷ lines) = if is_managers line.act then Some line.line else managers_line lines
-
--- the first line that asks for a module, which isn't built yet: the first `module` line, and where there is none the first line of the actor `m`
-abbrev pub not_built : List ℕ → Steps → Option ℕ
-not_built input steps = if length steps.sections == 1 then managers_line steps.body else Some (unwrap_or (line_with (codes "module") 1 (lines_of input)) 0)
-
 abbrev pub played : List (List ℕ) → Result Played (ℕ × Code) → Written
 played names (Ok p) = record { status = 0; text = p.text }
 played names (Err why) = refused names why
 
-abbrev pub step_built : Steps → Option ℕ → Written
-step_built steps (Some line) = refused (names_of steps.sections) (line, code.NotBuilt)
-step_built steps None = played (names_of steps.sections) (schedule_of steps)
+abbrev pub step_played : Steps → Written
+step_played steps = played (names_of steps.sections) (schedule_of steps)
 
-abbrev pub step_read : List ℕ → Result Steps (ℕ × Code) → Written
-step_read input (Ok steps) = step_built steps (not_built input steps)
-step_read input (Err why) = refused [] why
+abbrev pub step_read : Result Steps (ℕ × Code) → Written
+step_read (Ok steps) = step_played steps
+step_read (Err why) = refused [] why
 
 -- ---- `check`
 
@@ -112,7 +77,7 @@ trace_checked input (Err why) = refused [] why
 -- ---- all
 
 abbrev pub answer_in : Mode → List ℕ → Written
-answer_in mode.Step input = step_read input (steps_of input)
+answer_in mode.Step input = step_read (steps_of input)
 answer_in mode.Check input = if is_schedule input then steps_checked input (steps_of input) else trace_checked input (trace_of input)
 
 -- what is written for an input
@@ -134,13 +99,6 @@ mode_of (word ∷ other ∷ others) = None
 pub record Gives (answer : Answer) (written : Written) : Type 0 where
   pub status : answer.status ≡ written.status
   pub text : answer.text.items ≡ written.text
-
--- A call gave the text of what was played, unless memory ran out.
-abbrev pub Prints : Result (Vec ℕ Global) TextError → Result Played (ℕ × Code) → Type 0
-Prints (Ok text) (Ok p) = text.items ≡ p.text
-Prints (Ok text) (Err why) = ⊥
-Prints (Err (text.Refused line code)) meant = meant ≡ Err (line, code)
-Prints (Err (text.Memory want)) meant = ⊤
 
 -- the input that was read: all of it, or one byte more than is read
 pub record IsInput (old new : Option (List ℕ)) (input : List ℕ) : Type 0 where

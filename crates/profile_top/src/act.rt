@@ -34,16 +34,16 @@ impl From<AllocError> for ActError {
     }
 }
 
-fn actor_of(actor: StepActor) -> Option<Actor>
+fn actor_of(actor: StepActor) -> Actor
     ensures { result ≡ actor_of actor }
 {
     match actor {
-        StepActor::Cpu(cpu) => Some(Actor::Cpu(cpu)),
-        StepActor::Manager => None,
+        StepActor::Cpu(cpu) => Actor::Cpu(cpu),
+        StepActor::Manager => Actor::Manager,
     }
 }
 
-fn op_of(op: StepOp) -> Option<Op>
+fn op_of(op: StepOp) -> Op
     ensures { result ≡ op_of op }
 {
     match op {
@@ -52,36 +52,39 @@ fn op_of(op: StepOp) -> Option<Op>
             section,
             index,
             size,
-        } => Some(Op::Open {
+        } => Op::Open {
             key,
             section,
             index,
             size,
-        }),
-        StepOp::Close { key } => Some(Op::Close { key }),
-        StepOp::Split { key, parts, first } => Some(Op::Split { key, parts, first }),
-        StepOp::Swap { one, two } => Some(Op::Swap { one, two }),
-        StepOp::Trim { key, bytes } => Some(Op::Trim { key, bytes }),
-        _ => None,
+        },
+        StepOp::Close { key } => Op::Close { key },
+        StepOp::Split { key, parts, first } => Op::Split { key, parts, first },
+        StepOp::Swap { one, two } => Op::Swap { one, two },
+        StepOp::Trim { key, bytes } => Op::Trim { key, bytes },
+        StepOp::Enter { section } => Op::Enter { section },
+        StepOp::Leave { section } => Op::Leave { section },
+        StepOp::Load { section } => Op::Load { section },
+        StepOp::Unload { section } => Op::Unload { section },
+        StepOp::Clean => Op::Clean,
     }
 }
 
-/// What the core is asked for. None where it isn't built yet.
-pub(crate) fn act_of(act: StepAct) -> Option<Act>
+/// What the core is asked for.
+pub(crate) fn act_of(act: StepAct) -> Act
     ensures { result ≡ act_of act }
 {
     match act {
-        StepAct::Do { actor, op } => {
-            let actor = actor_of(actor)?;
-            let op = op_of(op)?;
-            Some(Act::Do { actor, op })
-        }
-        StepAct::Go { actor, count } => {
-            let actor = actor_of(actor)?;
-            Some(Act::Go { actor, count })
-        }
-        StepAct::Print => Some(Act::Print),
-        StepAct::Words { section, index } => Some(Act::Words { section, index }),
+        StepAct::Do { actor, op } => Act::Do {
+            actor: actor_of(actor),
+            op: op_of(op),
+        },
+        StepAct::Go { actor, count } => Act::Go {
+            actor: actor_of(actor),
+            count,
+        },
+        StepAct::Print => Act::Print,
+        StepAct::Words { section, index } => Act::Words { section, index },
     }
 }
 
@@ -91,8 +94,16 @@ pub(crate) fn code_of(why: StepRefused) -> Code
 {
     match why {
         StepRefused::NoStep => Code::NoStep,
+        StepRefused::ListHeld => Code::Held,
         StepRefused::NotLive(key) => Code::NotLive(key),
         StepRefused::KeyUsed(key) => Code::KeyUsed(key),
+        StepRefused::NotRunning(section) => Code::NotRunning(section),
+        StepRefused::Inside(section) => Code::Inside(section),
+        StepRefused::NotLoaded(section) => Code::NotLoaded(section),
+        StepRefused::AlreadyLoaded(section) => Code::AlreadyLoaded(section),
+        StepRefused::Busy(users) => Code::Busy(users),
+        StepRefused::Full => Code::Full,
+        StepRefused::NoRoom => Code::NoRoom,
         StepRefused::Uneven => Code::Uneven,
         StepRefused::TooSmall => Code::TooSmall,
     }

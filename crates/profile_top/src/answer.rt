@@ -3,18 +3,17 @@
 ghost use Rattle.std.specs.Prelude.{◌≡◌, ◌++◌, ◌≤◌, length, IfOk, OnOk};
 ghost use Rattle.tag_section.specs.Section.{names_of};
 ghost use Rattle.text_form.specs.Lines.{lines_of};
-ghost use Rattle.trace.specs.StepForm.{AreSteps};
 ghost use Rattle.trace.specs.StepReading.{steps_of};
 ghost use Rattle.trace.specs.TraceReading.{trace_of};
-ghost use Rattle.profile_top.specs.Answers.{Gives, refusal_text, refused, ok_text, all_well, line_with, is_managers_actor, is_managers, managers_line, not_built, step_built, step_read, is_schedule, steps_checked, trace_checked, answer_in};
+ghost use Rattle.profile_top.specs.Answers.{Gives, refusal_text, refused, ok_text, all_well, step_read, is_schedule, steps_checked, trace_checked, answer_in};
 
 use crate::number::write_number;
 use crate::schedule::run_schedule;
 use round_check::check_rounds;
 use std::alloc::{AllocError, Global};
 use tag_section::Sections;
-use text_form::{next_line, word_at};
-use trace::{Code, StepAct, StepActor, StepLine, Steps, TextError, read_steps, read_trace};
+use text_form::next_line;
+use trace::{Code, TextError, read_steps, read_trace};
 
 /// The most bytes of an input.
 pub const INPUT_LIMIT: usize = 4_194_304;
@@ -49,7 +48,7 @@ fn write_refusal(
 }
 
 /// The line is refused.
-fn refusal(alloc: Global, sections: &Sections, line: u32, code: Code) -> Result<Answer, AllocError>
+pub(crate) fn refusal(alloc: Global, sections: &Sections, line: u32, code: Code) -> Result<Answer, AllocError>
     ensures { IfOk result (λ answer. Gives answer (refused (names_of sections.now) (line, code))) }
 {
     let mut text = Vec::new(alloc);
@@ -59,89 +58,13 @@ fn refusal(alloc: Global, sections: &Sections, line: u32, code: Code) -> Result<
 
 // ---- `step`
 
-/// The number of the first line of this first word.
-fn line_with(text: &[u8], word: &[u8]) -> Option<u32>
-    requires { length text.now ≤ 4194304 }
-    ensures { result ≡ line_with word.now 1 (lines_of text.now) }
-{
-    let mut rest = text;
-    let mut number: u32 = 1;
-    while let Some((line, after)) = next_line(rest) {
-        if word_at(line, 0) == word {
-            return Some(number);
-        }
-        rest = after;
-        number += 1;
-    }
-    None
-}
-
-fn is_managers_actor(actor: StepActor) -> bool
-    ensures { result ≡ is_managers_actor actor }
-{
-    match actor {
-        StepActor::Cpu(_) => false,
-        StepActor::Manager => true,
-    }
-}
-
-/// Whether the line is one of the actor `m`.
-fn is_managers(act: StepAct) -> bool
-    ensures { result ≡ is_managers act }
-{
-    match act {
-        StepAct::Do { actor, .. } => is_managers_actor(actor),
-        StepAct::Go { actor, .. } => is_managers_actor(actor),
-        StepAct::Print => false,
-        StepAct::Words { .. } => false,
-    }
-}
-
-fn managers_line(lines: &[StepLine]) -> Option<u32>
-    ensures { result ≡ managers_line lines.now }
-{
-    for line in lines {
-        if is_managers(line.act) {
-            return Some(line.line);
-        }
-    }
-    None
-}
-
-/// The first line that asks for a module, which is not built yet.
-fn not_built(input: &[u8], steps: &Steps) -> Option<u32>
-    requires { length input.now ≤ 4194304 }
-    ensures { result ≡ not_built input.now steps.now }
-{
-    if steps.sections.count() == 1 {
-        managers_line(steps.body.as_slice())
-    } else {
-        Some(line_with(input, b"module").unwrap_or(0))
-    }
-}
-
-fn answer_steps(alloc: Global, input: &[u8], steps: &Steps) -> Result<Answer, AllocError>
-    requires short { length input.now ≤ 4194304 }
-    requires formed { AreSteps steps.now }
-    ensures { IfOk result (λ answer. Gives answer (step_built steps.now (not_built input.now steps.now))) }
-{
-    if let Some(line) = not_built(input, steps) {
-        return refusal(alloc, &steps.sections, line, Code::NotBuilt);
-    }
-    match run_schedule(alloc, steps) {
-        Ok(text) => Ok(Answer { status: 0, text }),
-        Err(TextError::Refused { line, code }) => refusal(alloc, &steps.sections, line, code),
-        Err(TextError::Memory(error)) => Err(error),
-    }
-}
-
 /// The answer to `step`.
 fn step_answer(alloc: Global, input: &[u8]) -> Result<Answer, AllocError>
     requires { length input.now ≤ 4194304 }
-    ensures { IfOk result (λ answer. Gives answer (step_read input.now (steps_of input.now))) }
+    ensures { IfOk result (λ answer. Gives answer (step_read (steps_of input.now))) }
 {
     match read_steps(alloc, input) {
-        Ok(steps) => answer_steps(alloc, input, &steps),
+        Ok(steps) => run_schedule(alloc, steps),
         Err(TextError::Refused { line, code }) => refusal(alloc, &Sections::new(alloc), line, code),
         Err(TextError::Memory(error)) => Err(error),
     }

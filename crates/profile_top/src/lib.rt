@@ -5,6 +5,7 @@ mod act;
 mod answer;
 mod number;
 mod play;
+mod print;
 mod schedule;
 mod still;
 

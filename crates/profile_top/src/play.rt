@@ -1,30 +1,27 @@
 //! Plays the lines of a schedule on a core.
 
-ghost use Rattle.std.specs.Prelude.{◌≡◌, ℕ, ◌+◌, ◌<◌, ◌≤◌, Some, None, Ok, Err, Result, List, IfOk, OnOk, All, length, ◌++◌, decimal};
-ghost use Rattle.core_steps.specs.StepsLeft.{steps_left};
-ghost use Rattle.core_steps.specs.CoreState.{IsOp, IsActor};
-ghost use Rattle.profile_top.specs.Printed.{Setting};
-ghost use Rattle.profile_top.specs.Schedule.{Played, Shows, Follows, SameSizes, IsAct, IsLine, setting, queues_on, steps_on, asked, act_on, asks, play, Plays};
-ghost use Rattle.profile_top.specs.Acts.{act_of};
-ghost use Rattle.trace.specs.Judging.{at};
+ghost use Rattle.std.specs.Prelude.{◌≡◌, ℕ, ◌+◌, ◌<◌, ◌≤◌, ◌↔◌, Some, None, Ok, Err, Result, Option, List, IfOk, OnOk, IfSome, All, length};
 ghost use Rattle.tag_section.specs.Section.{section_at};
-ghost use Rattle.std.specs.List.{AllByRecursion};
-ghost use Rattle.profile_top.specs.Printed.{kernel_len, rows_below, cpu_text, words_text, allocinfo_text, IsKernelRow};
+ghost use Rattle.core_steps.specs.StepsLeft.{steps_left};
+ghost use Rattle.core_steps.specs.CoreState.{IsActor, IsOpOf};
+ghost use Rattle.core_list.specs.ListState.{loaded_entry};
+ghost use Rattle.trace.specs.Judging.{at};
+ghost use Rattle.profile_top.specs.Acts.{act_of};
+ghost use Rattle.profile_top.specs.Printed.{Setting};
+ghost use Rattle.profile_top.specs.Schedule.{Played, Shows, Follows, SameSizes, IsAct, IsLine, own_setting, one_step, steps_taken, steps_on, queues_on, act_on, play, Plays, module_number, words_of, number_of};
 
 use crate::act::{Act, ActError, act_of, code_of};
-use crate::number::write_number;
-use allocinfo::{Row, print_rows};
+use crate::print::{write_allocinfo, write_event, write_words};
 use core_steps::machine::Core;
 use core_steps::op::{Actor, Op, QueueError};
-use std::alloc::{AllocError, Global};
-use tag_section::Sections;
+use std::alloc::Global;
 use trace::{Code, StepLine, TextError};
 
 /// Queues the op.
 fn play_do(core: &mut Core, actor: Actor, op: Op) -> Result<(), ActError>
     requires actor { IsActor core.old actor }
-    requires op { IsOp core.old.kernel_len op }
-    ensures meaning { (s : Setting) (text : List ℕ) (p : Played) → Shows s core.old text p → Follows s result core.new text (queues_on actor op p) }
+    requires op { IsOpOf core.old.sections actor op }
+    ensures meaning { (text : List ℕ) (p : Played) → Shows (own_setting core.old) core.old text p → Follows (own_setting core.old) result core.new text (queues_on (own_setting core.old) actor op p) }
     ensures sizes { SameSizes core.old core.new }
 {
     match core.queue(actor, op) {
@@ -34,140 +31,136 @@ fn play_do(core: &mut Core, actor: Actor, op: Op) -> Result<(), ActError>
     }
 }
 
-/// Takes one step.
-fn play_step(core: &mut Core, actor: Actor) -> Result<(), ActError>
-    ensures meaning { (s : Setting) (text : List ℕ) (p : Played) → Shows s core.old text p → Follows s result core.new text (steps_on actor 1 p) }
-    ensures left { IfOk result (λ _. steps_left core.old actor ≡ steps_left core.new actor + 1) }
+/// Takes one step, and writes what it tells.
+fn play_step(core: &mut Core, actor: Actor, out: &mut Vec<u8>) -> Result<(), ActError>
+    ensures meaning { (p : Played) → Shows (own_setting core.old) core.old out.old.items p → Follows (own_setting core.old) result core.new out.new.items (one_step (own_setting core.old) actor p) }
+    ensures left { IfOk result (λ _. steps_left core.new actor < steps_left core.old actor) }
     ensures sizes { SameSizes core.old core.new }
 {
     match core.go(actor) {
-        Ok(_event) => Ok(()),
+        Ok(event) => {
+            write_event(core.sections(), event, out)?;
+            Ok(())
+        }
         Err(why) => Err(ActError::Refused(code_of(why))),
     }
 }
 
 /// Takes so many steps, up to the first that is refused.
-fn play_steps(core: &mut Core, actor: Actor, count: u32) -> Result<(), ActError>
-    ensures meaning { (s : Setting) (text : List ℕ) (p : Played) → Shows s core.old text p → Follows s result core.new text (steps_on actor count p) }
+fn play_steps(
+    core: &mut Core,
+    actor: Actor,
+    count: u32,
+    out: &mut Vec<u8>,
+) -> Result<(), ActError>
+    ensures meaning { (p : Played) → Shows (own_setting core.old) core.old out.old.items p → Follows (own_setting core.old) result core.new out.new.items (steps_taken (own_setting core.old) actor count p) }
     ensures sizes { SameSizes core.old core.new }
 {
     for _step in 0..count {
-        if let Err(error) = play_step(core, actor) {
+        if let Err(error) = play_step(core, actor, out) {
             return Err(error);
         }
     }
     Ok(())
 }
 
-/// Takes the steps that the actor's ops have left, up to the first that is refused.
-fn play_all(core: &mut Core, actor: Actor) -> Result<(), ActError>
-    ensures meaning { (s : Setting) (text : List ℕ) (p : Played) → Shows s core.old text p → Follows s result core.new text (steps_on actor (asked actor None p) p) }
+/// Takes steps until the actor is idle, up to the first that is refused.
+fn play_all(core: &mut Core, actor: Actor, out: &mut Vec<u8>) -> Result<(), ActError>
+    ensures meaning { (p : Played) → Shows (own_setting core.old) core.old out.old.items p → Follows (own_setting core.old) result core.new out.new.items (steps_on (own_setting core.old) actor None p) }
     ensures sizes { SameSizes core.old core.new }
 {
     while !core.idle(actor) {
-        if let Err(error) = play_step(core, actor) {
+        if let Err(error) = play_step(core, actor, out) {
             return Err(error);
         }
     }
     Ok(())
 }
 
-fn play_go(core: &mut Core, actor: Actor, count: Option<u32>) -> Result<(), ActError>
-    ensures meaning { (s : Setting) (text : List ℕ) (p : Played) → Shows s core.old text p → Follows s result core.new text (steps_on actor (asked actor count p) p) }
+fn play_go(
+    core: &mut Core,
+    actor: Actor,
+    count: Option<u32>,
+    out: &mut Vec<u8>,
+) -> Result<(), ActError>
+    ensures meaning { (p : Played) → Shows (own_setting core.old) core.old out.old.items p → Follows (own_setting core.old) result core.new out.new.items (steps_on (own_setting core.old) actor count p) }
     ensures sizes { SameSizes core.old core.new }
 {
     match count {
-        Some(count) => play_steps(core, actor, count),
-        None => play_all(core, actor),
+        Some(count) => play_steps(core, actor, count, out),
+        None => play_all(core, actor, out),
     }
 }
 
-/// The kernel's rows: for each of its tags the sums of its words.
-fn kernel_rows(alloc: Global, core: &Core, count: u32) -> Result<Vec<Row>, AllocError>
-    requires { count ≤ core.now.shape.tags }
-    ensures rows { (s : Setting) (text : List ℕ) (p : Played) → Shows s core.now text p → IfOk result (λ rows. rows.items ≡ rows_below s p.moves count) }
-    ensures of_kernel { IfOk result (λ rows. All (IsKernelRow count) rows.items) }
+/// The number of a tag of a module: None where the module isn't loaded.
+fn module_number(core: &Core, section: u32, index: u32) -> Option<u32>
+    requires section { section < length core.now.sections }
+    requires index { index < length (section_at core.now.sections section).tags }
+    ensures number { result ≡ module_number index (loaded_entry section core.now.modules.list) }
+    ensures within { IfSome result (λ number. number < core.now.shape.tags) }
 {
-    let mut rows = Vec::new(alloc);
-    for index in 0..count {
-        let (bytes, calls) = core.totals(index);
-        rows.push(Row {
-            bytes,
-            calls,
-            section: 0,
-            index,
-            kept: false,
-        })?;
-    }
-    Ok(rows)
+    let book = core.book();
+    let id = book.loaded(section)?;
+    let entry = book.get(id)?;
+    Some(entry.start + index)
 }
 
-/// Appends allocinfo of the sums.
-fn play_print(
-    alloc: Global,
+/// The number of a tag.
+fn tag_number(core: &Core, section: u32, index: u32) -> Option<u32>
+    requires kernel { length (section_at core.now.sections 0).tags ≤ core.now.shape.tags }
+    requires section { section < length core.now.sections }
+    requires index { index < length (section_at core.now.sections section).tags }
+    ensures number { (s : Setting) (text : List ℕ) (p : Played) → Shows s core.now text p → result ≡ number_of section index p }
+    ensures within { IfSome result (λ number. number < core.now.shape.tags) }
+{
+    if section == 0 {
+        return Some(index);
+    }
+    module_number(core, section, index)
+}
+
+/// Writes each CPU's words of the tag.
+fn play_words(
     core: &Core,
-    sections: &Sections,
+    section: u32,
+    index: u32,
     out: &mut Vec<u8>,
-) -> Result<(), AllocError>
-    requires kernel { 0 < length sections.now }
-    requires fits { length (section_at sections.now 0).tags ≤ core.now.shape.tags }
-    ensures { let s = setting core.now.shape sections.now in (p : Played) → Shows s core.now out.old.items p → OnOk result (out.new.items ≡ out.old.items ++ allocinfo_text s p.moves) }
+) -> Result<(), ActError>
+    requires kernel { length (section_at core.now.sections 0).tags ≤ core.now.shape.tags }
+    requires section { section < length core.now.sections }
+    requires index { index < length (section_at core.now.sections section).tags }
+    ensures { (p : Played) → Shows (own_setting core.now) core.now out.old.items p → Follows (own_setting core.now) result core.now out.new.items (words_of (own_setting core.now) section (number_of section index p) p) }
 {
-    let rows = kernel_rows(alloc, core, sections.len_of(0))?;
-    print_rows(sections, rows.as_slice(), out)
-}
-
-fn write_cpu(cpu: u32, bytes: u64, calls: u64, out: &mut Vec<u8>) -> Result<(), AllocError>
-    ensures { OnOk result (out.new.items ≡ out.old.items ++ cpu_text cpu bytes calls) }
-{
-    out.extend_from_slice(b"cpu ")?;
-    write_number(u64::from(cpu), out)?;
-    out.extend_from_slice(b" bytes ")?;
-    write_number(bytes, out)?;
-    out.extend_from_slice(b" calls ")?;
-    write_number(calls, out)?;
-    out.extend_from_slice(b"\n")
-}
-
-/// Appends each CPU's words of the tag.
-fn play_words(core: &Core, cpus: u32, tag: u32, out: &mut Vec<u8>) -> Result<(), AllocError>
-    requires cpus { cpus ≤ core.now.shape.cpus }
-    requires tag { tag < core.now.shape.tags }
-    ensures { (s : Setting) (p : Played) → Shows s core.now out.old.items p → OnOk result (out.new.items ≡ out.old.items ++ words_text cpus p.moves tag) }
-{
-    for cpu in 0..cpus {
-        let (bytes, calls) = core.cpu_word(cpu, tag);
-        write_cpu(cpu, bytes, calls, out)?;
+    match tag_number(core, section, index) {
+        None => Err(ActError::Refused(Code::NotLoaded(section))),
+        Some(number) => {
+            write_words(core, core.cpus(), number, out)?;
+            Ok(())
+        }
     }
-    Ok(())
 }
 
 /// Does what a line asks for.
 fn play_act(
     alloc: Global,
     core: &mut Core,
-    sections: &Sections,
     act: Act,
     out: &mut Vec<u8>,
 ) -> Result<(), ActError>
-    requires kernel { 0 < length sections.now }
-    requires fits { length (section_at sections.now 0).tags ≤ core.old.shape.tags }
-    requires len { core.old.kernel_len ≡ length (section_at sections.now 0).tags }
-    requires act { IsAct (setting core.old.shape sections.now) act }
-    ensures meaning { let s = setting core.old.shape sections.now in (p : Played) → Shows s core.old out.old.items p → Follows s result core.new out.new.items (act_on s act p) }
+    requires kernel { 0 < length core.old.sections }
+    requires fits { length (section_at core.old.sections 0).tags ≤ core.old.shape.tags }
+    requires act { IsAct core.old act }
+    ensures meaning { (p : Played) → Shows (own_setting core.old) core.old out.old.items p → Follows (own_setting core.old) result core.new out.new.items (act_on (own_setting core.old) act p) }
     ensures sizes { SameSizes core.old core.new }
 {
     match act {
         Act::Do { actor, op } => play_do(core, actor, op),
-        Act::Go { actor, count } => play_go(core, actor, count),
+        Act::Go { actor, count } => play_go(core, actor, count, out),
         Act::Print => {
-            play_print(alloc, core, sections, out)?;
+            write_allocinfo(alloc, core, out)?;
             Ok(())
         }
-        Act::Words { index, .. } => {
-            play_words(core, core.cpus(), index, out)?;
-            Ok(())
-        }
+        Act::Words { section, index } => play_words(core, section, index, out),
     }
 }
 
@@ -175,25 +168,17 @@ fn play_act(
 fn play_line(
     alloc: Global,
     core: &mut Core,
-    sections: &Sections,
     line: StepLine,
     out: &mut Vec<u8>,
 ) -> Result<(), TextError>
-    requires kernel { 0 < length sections.now }
-    requires fits { length (section_at sections.now 0).tags ≤ core.old.shape.tags }
-    requires len { core.old.kernel_len ≡ length (section_at sections.now 0).tags }
-    requires line { IsLine (setting core.old.shape sections.now) line }
-    ensures meaning { let s = setting core.old.shape sections.now in (p : Played) → Shows s core.old out.old.items p → Plays s result core.new out.new.items (at line.line (asks s (act_of line.act) p)) }
+    requires kernel { 0 < length core.old.sections }
+    requires fits { length (section_at core.old.sections 0).tags ≤ core.old.shape.tags }
+    requires line { IsLine core.old line }
+    ensures meaning { (p : Played) → Shows (own_setting core.old) core.old out.old.items p → Plays (own_setting core.old) result core.new out.new.items (at line.line (act_on (own_setting core.old) (act_of line.act) p)) }
     ensures sizes { SameSizes core.old core.new }
 {
     let number = line.line;
-    let Some(act) = act_of(line.act) else {
-        return Err(TextError::Refused {
-            line: number,
-            code: Code::NotBuilt,
-        });
-    };
-    match play_act(alloc, core, sections, act, out) {
+    match play_act(alloc, core, act_of(line.act), out) {
         Ok(()) => Ok(()),
         Err(ActError::Refused(code)) => Err(TextError::Refused { line: number, code }),
         Err(ActError::Memory(want)) => Err(TextError::Memory(want)),
@@ -204,18 +189,17 @@ fn play_line(
 pub(crate) fn play(
     alloc: Global,
     core: &mut Core,
-    sections: &Sections,
     lines: &[StepLine],
     out: &mut Vec<u8>,
 ) -> Result<(), TextError>
-    requires kernel { 0 < length sections.now }
-    requires fits { length (section_at sections.now 0).tags ≤ core.old.shape.tags }
-    requires len { core.old.kernel_len ≡ length (section_at sections.now 0).tags }
-    requires lines { All (IsLine (setting core.old.shape sections.now)) lines.now }
-    ensures { let s = setting core.old.shape sections.now in (p : Played) → Shows s core.old out.old.items p → Plays s result core.new out.new.items (play s lines.now p) }
+    requires kernel { 0 < length core.old.sections }
+    requires fits { length (section_at core.old.sections 0).tags ≤ core.old.shape.tags }
+    requires lines { All (IsLine core.old) lines.now }
+    ensures meaning { (p : Played) → Shows (own_setting core.old) core.old out.old.items p → Plays (own_setting core.old) result core.new out.new.items (play (own_setting core.old) lines.now p) }
+    ensures sizes { SameSizes core.old core.new }
 {
     for line in lines {
-        if let Err(error) = play_line(alloc, core, sections, *line, out) {
+        if let Err(error) = play_line(alloc, core, *line, out) {
             return Err(error);
         }
     }

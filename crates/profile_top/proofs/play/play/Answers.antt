@@ -1,10 +1,11 @@
 use Rattle.std.proofs.Common.{refl}
-use Rattle.profile_top.proofs.Stepping.{reaches_line, sizes_kept}
+use Rattle.profile_top.specs.Schedule.{own_setting}
+use Rattle.profile_top.proofs.Stepping.{reaches_line, sizes_kept, own_kept}
 use Rattle.profile_top.proofs.play.play.Goals as goal
 
 pub loop-line-preserved : goal.loop-line-preserved
 loop-line-preserved c = record {
-  reaches = λ p shows. reaches_line c.args.core.now.shape c.loop-line.core.shape c.args.sections.now c.loop-line.core c.play_line.new.core c.loop-line.out.items c.play_line.new.out.items _ _ c.args.lines.now c.loop-line.line-index p
-      c.loop-line.invariant.sizes.shape c.loop-line-test.true refl (c.loop-line.invariant.reaches p shows) c.in_default.ensures.meaning;
+  reaches = λ p shows. reaches_line (own_setting c.args.core.now) (own_setting c.loop-line.core) c.loop-line.core c.play_line.new.core c.loop-line.out.items c.play_line.new.out.items _ _ c.args.lines.now c.loop-line.line-index p
+      (own_kept c.args.core.now c.loop-line.core c.loop-line.invariant.sizes) c.loop-line-test.true refl (c.loop-line.invariant.reaches p shows) c.in_default.ensures.meaning;
   sizes = sizes_kept c.args.core.now c.loop-line.core c.play_line.new.core c.loop-line.invariant.sizes c.in_default.ensures.sizes;
 }

@@ -1,10 +1,10 @@
 use Rattle.std.proofs.Common.{drop}
-use Rattle.profile_top.specs.Schedule.{Played, Shows, SameSizes, setting}
+use Rattle.profile_top.specs.Schedule.{Played, Shows, SameSizes, own_setting}
 use Rattle.profile_top.proofs.Stepping.{Reaches}
 use Rattle.profile_top.proofs.play.play.Given as goal
 
 abbrev pub invariant-loop-line : goal.invariant-loop-line
 invariant-loop-line l = record {
-  reaches : (p : Played) → Shows (setting l.fn.core.shape l.sections) l.fn.core l.fn.out.items p → Reaches (setting l.fn.core.shape l.sections) l.core l.out.items (drop l.line-index l.lines) l.lines p;
+  reaches : (p : Played) → Shows (own_setting l.fn.core) l.fn.core l.fn.out.items p → Reaches (own_setting l.fn.core) l.core l.out.items (drop l.line-index l.lines) l.lines p;
   sizes : SameSizes l.fn.core l.core;
 }

@@ -1,24 +1,41 @@
-use Rattle.std.proofs.Common.{arith, None}
+use Rattle.std.proofs.Common.{◌≡◌, ℕ, List, Result, subst, sym, ap}
+use Rattle.std.specs.Prelude.{⊤}
+use Rattle.core_steps.specs.CoreState.{CoreState}
 use Rattle.core_steps.specs.StepsLeft.{steps_left}
-use Rattle.profile_top.specs.Schedule.{asked}
-use Rattle.profile_top.proofs.Stepping.{sizes_kept, goes_on, goes_err, goes_end, some_left}
+use Rattle.profile_top.specs.declared.act.ActError.{ActError}
+use Rattle.profile_top.specs.Printed.{Setting}
+use Rattle.profile_top.specs.Schedule.{Played, Shows, Follows, own_setting, core_played, one_step}
+use Rattle.profile_top.proofs.Stepping.{same_sizes, sizes_kept, own_kept, all_first, all_on, all_err, all_end}
 use Rattle.profile_top.proofs.play.play_all.Goals as goal
+
+pub loop-actor-init : goal.loop-actor-init
+loop-actor-init c = record {
+  goes = λ p shows. all_first (own_setting c.args.core.now) c.args.actor c.args.core.now c.args.out.now.items p shows;
+  sizes = same_sizes c.args.core.now;
+}
 
 pub loop-actor-preserved : goal.loop-actor-preserved
 loop-actor-preserved c = record {
-  goes = λ s text p shows.
-      let g = c.loop-actor.invariant.goes s text p shows in
-      goes_on s c.args.actor c.loop-actor.core c.play_step.new.core text (steps_left c.loop-actor.core c.args.actor) (steps_left c.play_step.new.core c.args.actor) (asked c.args.actor None p) p _ c.in_default.field-0
-      (omega (arith, c.in_default.ensures.left)) g (c.in_default.ensures.meaning s text g.played g.shows);
+  goes = λ p shows.
+      let s = own_setting c.args.core.now in
+      let g = c.loop-actor.invariant.goes p shows in
+      let same = own_kept c.args.core.now c.loop-actor.core c.loop-actor.invariant.sizes in
+      let meant = subst (λ (x : Setting). (q : Played) → Shows x c.loop-actor.core c.loop-actor.out.items q → Follows x (Result.Ok c.in_default.field-0) c.play_step.new.core c.play_step.new.out.items (one_step x c.args.actor q)) same c.in_default.ensures.meaning in
+      all_on s c.args.actor c.loop-actor.core c.play_step.new.core c.loop-actor.out.items c.play_step.new.out.items (steps_left (core_played s p) c.args.actor) p c.idle.result _ c.in_default.field-0
+      c.idle.ensures.empty c.loop-actor-test.true c.in_default.ensures.left g (meant g.played g.shows);
   sizes = sizes_kept c.args.core.now c.loop-actor.core c.play_step.new.core c.loop-actor.invariant.sizes c.in_default.ensures.sizes;
 }
 
 pub returns-in-Err-clause-meaning : goal.returns-in-Err-clause-meaning
-returns-in-Err-clause-meaning c = λ s text p shows.
-    let g = c.loop-actor.invariant.goes s text p shows in
-    goes_err s c.args.actor c.loop-actor.core c.play_step.new.core text (steps_left c.loop-actor.core c.args.actor) (asked c.args.actor None p) p (Unit {0}) (Unit {0}) c.in-Err.error
-    (some_left (steps_left c.loop-actor.core c.args.actor) c.idle.result c.idle.ensures.left c.loop-actor-test.true) g (c.in-Err.ensures.meaning s text g.played g.shows)
+returns-in-Err-clause-meaning c = λ p shows.
+    let s = own_setting c.args.core.now in
+    let g = c.loop-actor.invariant.goes p shows in
+    let same = own_kept c.args.core.now c.loop-actor.core c.loop-actor.invariant.sizes in
+    let meant = subst (λ (x : Setting). (q : Played) → Shows x c.loop-actor.core c.loop-actor.out.items q → Follows {X = Unit {0}} x (Result.Err c.in-Err.error) c.play_step.new.core c.play_step.new.out.items (one_step x c.args.actor q)) same c.in-Err.ensures.meaning in
+    all_err s c.args.actor c.loop-actor.core c.play_step.new.core c.loop-actor.out.items c.play_step.new.out.items (steps_left (core_played s p) c.args.actor) p c.idle.result (Unit {0}) (Unit {0}) c.in-Err.error
+    c.idle.ensures.empty c.idle.ensures.left c.loop-actor-test.true g (meant g.played g.shows)
 
 pub returns-clause-meaning : goal.returns-clause-meaning
-returns-clause-meaning c = λ s text p shows.
-    goes_end s c.args.actor c.loop-actor.core text (steps_left c.loop-actor.core c.args.actor) (asked c.args.actor None p) p (Unit {0}) tt (c.idle.ensures.left.0 c.loop-actor-test.false) (c.loop-actor.invariant.goes s text p shows)
+returns-clause-meaning c = λ p shows.
+    let s = own_setting c.args.core.now in
+    all_end s c.args.actor c.loop-actor.core c.loop-actor.out.items (steps_left (core_played s p) c.args.actor) p c.idle.result (Unit {0}) tt c.idle.ensures.empty c.loop-actor-test.false (c.loop-actor.invariant.goes p shows)

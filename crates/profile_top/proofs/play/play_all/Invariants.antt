@@ -1,13 +1,12 @@
-use Rattle.std.proofs.Common.{ℕ, List, None}
+use Rattle.std.proofs.Common.{ℕ, List}
 use Rattle.core_steps.specs.StepsLeft.{steps_left}
-use Rattle.profile_top.specs.Printed.{Setting}
-use Rattle.profile_top.specs.Schedule.{Played, Shows, SameSizes, asked}
-use Rattle.profile_top.proofs.Stepping.{Goes}
+use Rattle.profile_top.specs.Schedule.{Played, Shows, SameSizes, own_setting, core_played}
+use Rattle.profile_top.proofs.Stepping.{GoesAll}
 use Rattle.profile_top.proofs.play.play_all.Given as goal
 
 abbrev pub invariant-loop-actor : goal.invariant-loop-actor
 invariant-loop-actor l = record {
-  goes : (s : Setting) (text : List ℕ) (p : Played) → Shows s l.fn.core text p → Goes s l.actor l.core text (steps_left l.core l.actor) (asked l.actor None p) p;
+  goes : (p : Played) → Shows (own_setting l.fn.core) l.fn.core l.fn.out.items p → GoesAll (own_setting l.fn.core) l.actor l.core l.out.items (steps_left (core_played (own_setting l.fn.core) p) l.actor) p;
   sizes : SameSizes l.fn.core l.core;
 }
 

@@ -1,8 +1,17 @@
-use Rattle.std.proofs.Common.{arith}
-use Rattle.profile_top.proofs.Totals.{cpus_more}
+use Rattle.std.proofs.Common.{◌≡◌, ℕ, Option, Some, None, Result, Ok, ap, sym, ◌∙◌, subst}
+use Rattle.profile_top.specs.Printed.{words_text}
+use Rattle.profile_top.specs.Schedule.{Played, Follows, own_setting, number_of, words_of}
+use Rattle.profile_top.proofs.Stepping.{text_shown}
 use Rattle.profile_top.proofs.play.play_words.Goals as goal
 
-pub loop-cpu-preserved : goal.loop-cpu-preserved
-loop-cpu-preserved c = λ s p shows.
-    cpus_more s c.args.core.now c.args.out.now.items p c.loop-cpu.out.items c.write_cpu.new.out.items c.loop-cpu.cpu c.args.tag c.cpu_word-bytes.result.0 c.cpu_word-bytes.result.1 shows (omega arith) c.requires.tag
-    (c.loop-cpu.invariant s p shows) c.cpu_word-bytes.ensures.bytes c.cpu_word-bytes.ensures.calls c.in_ok-write_cpu.ensures
+pub returns-in-None : goal.returns-in-None
+returns-in-None c = λ p shows.
+    let s = own_setting c.args.core.now in
+    ap (λ (o : Option ℕ). words_of s c.args.section o p) (sym (c.in-None.ensures.number s _ p shows))
+
+pub returns-in_ok-write_words-in-Some : goal.returns-in_ok-write_words-in-Some
+returns-in_ok-write_words-in-Some c = λ p shows.
+    let s = own_setting c.args.core.now in
+    subst (λ (o : Option ℕ). Follows {X = Unit {0}} s (Ok tt) c.args.core.now c.write_words.new.out.items (words_of s c.args.section o p)) (c.in-Some.ensures.number s _ p shows)
+    (text_shown s c.args.core.now c.args.out.now.items c.write_words.new.out.items (words_text c.args.core.now.shape.cpus p.moves c.in-Some.number) p shows
+    (rw (sym c.cpus.ensures) (c.in_ok-write_words-in-Some.ensures s p shows)))
