@@ -4,8 +4,7 @@ use Rattle.std.specs.Io.KnownBytes.{Consumes, Appends}
 use Rattle.outside.specs.Bytes.{Took}
 use Rattle.outside.specs.declared.faults.ReadError.TheVariants.{TooLong}
 use Rattle.profile_top.specs.declared.answer.Mode.{Mode}
-use Rattle.profile_top.specs.declared.answer.TheConstants.{INPUT_LIMIT}
-use Rattle.profile_top.specs.Answers.{answer_of, answer_in, too_long}
+use Rattle.profile_top.specs.Answers.{answer_of, answer_in, input_limit, too_long}
 
 at_least : (new : Option (List ℕ)) (input bytes : List ℕ) → Consumes (Some input) new bytes → length bytes ≤ length input
 at_least None input bytes none = absurd none
@@ -13,17 +12,17 @@ at_least (Some rest) input bytes is = let parts : length (bytes ++ rest) ≡ len
     let whole : length input ≡ length (bytes ++ rest) = ap (λ (l : List ℕ). length l) is in
     omega (arith, parts, whole)
 
-long_answer : (mode : Mode) (input : List ℕ) → INPUT_LIMIT < length input → answer_of mode input ≡ too_long
-long_answer mode input h = let long : nat_lt INPUT_LIMIT (length input) ≡ true = lt-ltb INPUT_LIMIT (length input) h in
+long_answer : (mode : Mode) (input : List ℕ) → input_limit < length input → answer_of mode input ≡ too_long
+long_answer mode input h = let long : nat_lt input_limit (length input) ≡ true = lt-ltb input_limit (length input) h in
     ap (λ (b : Bool). if b then too_long else answer_in mode input) long
 
-pub too_long_is : (old new : Option (List ℕ)) → Took INPUT_LIMIT TooLong old new → (mode : Mode) (input : List ℕ) → old ≡ Some input → answer_of mode input ≡ too_long
+pub too_long_is : (old new : Option (List ℕ)) → Took input_limit TooLong old new → (mode : Mode) (input : List ℕ) → old ≡ Some input → answer_of mode input ≡ too_long
 too_long_is old new took mode input e = let taken : Consumes (Some input) new took.bytes = subst (λ (o : Option (List ℕ)). Consumes o new took.bytes) e took.taken in
     let many : length took.bytes ≤ length input = at_least new input took.bytes taken in
-    let amount : length took.bytes ≡ INPUT_LIMIT + 1 = took.amount in
+    let amount : length took.bytes ≡ input_limit + 1 = took.amount in
     long_answer mode input (omega (arith, many, amount))
 
-pub decided_long : (old new taken taken_after : Option (List ℕ)) (status : ℕ) → Took INPUT_LIMIT TooLong old new
+pub decided_long : (old new taken taken_after : Option (List ℕ)) (status : ℕ) → Took input_limit TooLong old new
     → (status ≢ 5 → (status ≡ 1) × Appends taken taken_after too_long.text)
     → (mode : Mode) (input : List ℕ) → old ≡ Some input → status < 2 → (status ≡ (answer_of mode input).status) × Appends taken taken_after (answer_of mode input).text
 decided_long old new taken taken_after status took whole mode input e below =

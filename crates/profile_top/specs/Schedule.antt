@@ -7,7 +7,6 @@ use Rattle.core_steps.specs.declared.op.StepRefused.{StepRefused}
 use Rattle.core_steps.specs.declared.op.Actor.{Actor}
 use Rattle.core_steps.specs.declared.op.Actor.TheVariants as actor
 use Rattle.core_steps.specs.declared.op.Op.{Op}
-use Rattle.core_steps.specs.declared.op.TheConstants.{MAX_QUEUED}
 use Rattle.core_steps.specs.Machine.{Machine, waiting_at, refusal_of, after_step, moves_of_step}
 use Rattle.core_steps.specs.CoreState.{CoreState, with_op, IsOp, fresh_machine}
 use Rattle.core_steps.specs.Moved.{core_of}
@@ -18,7 +17,6 @@ use Rattle.trace.specs.declared.steps.StepLine.{StepLine}
 use Rattle.trace.specs.declared.steps.Steps.{Steps}
 use Rattle.trace.specs.declared.code.TextError.{TextError}
 use Rattle.trace.specs.declared.code.TextError.TheVariants as text
-use Rattle.tag_model.specs.declared.limits.TheConstants.{KERNEL_TAGS}
 use Rattle.trace.specs.Judging.{◌>>=◌, at}
 use Rattle.profile_top.specs.Acts.{act_of, code_of}
 use Rattle.profile_top.specs.declared.act.ActError.{ActError}
@@ -63,7 +61,7 @@ abbrev pub with_queued : ℕ → Op → Played → Played
 with_queued cpu op p = record p { machine = record p.machine { waiting = slice_set p.machine.waiting cpu (with_op (waiting_at p.machine cpu) op) } }
 
 abbrev pub queues_op : ℕ → Op → Played → Result Played Code
-queues_op cpu op p = if nat_lt (length (waiting_at p.machine cpu).ops) MAX_QUEUED then Ok (with_queued cpu op p) else Err code.Queue
+queues_op cpu op p = if nat_lt (length (waiting_at p.machine cpu).ops) 65536 then Ok (with_queued cpu op p) else Err code.Queue
 
 abbrev pub queues_on : Actor → Op → Played → Result Played Code
 queues_on (actor.Cpu cpu) op p = queues_op cpu op p
@@ -104,7 +102,7 @@ play s (line ∷ lines) p = at line.line (asks s (act_of line.act) p) then (play
 
 -- one CPU and 128 kernel tags at least; frames and vectors aren't used
 abbrev pub shape_of : Steps → Shape
-shape_of steps = record { cpus = steps.cpus; tags = KERNEL_TAGS + steps.area; kernel_tags = KERNEL_TAGS; frames = 0; vectors = 0 }
+shape_of steps = record { cpus = steps.cpus; tags = 128 + steps.area; kernel_tags = 128; frames = 0; vectors = 0 }
 
 abbrev pub setting : Shape → List Section → Setting
 setting shape sections = record { shape = shape; sections = sections }
