@@ -2,7 +2,6 @@
 use Rattle.std.specs.Prelude.{ℕ, ◌≡◌, ◌≢◌, ◌+◌, ◌<◌, ◌≤◌, List, length, All, AllPairs}
 use Rattle.module_area.specs.declared.entry.Entry.{Entry}
 use Rattle.module_area.specs.declared.entry.State.TheVariants.{Loaded}
-use Rattle.module_area.specs.declared.book.TheConstants.{BOOK_LIMIT, TAG_LIMIT}
 use Rattle.module_area.specs.Entries.{IsFree, IsMet, AreApart}
 
 -- a book: its entries, the area's first tag, and how many tags the area has
@@ -25,9 +24,13 @@ pub record IsLeastStart (area : Area) (size start : ℕ) : Type 0 where
 abbrev pub HasNoRoom : Area → ℕ → Type 0
 HasNoRoom area size = (start : ℕ) → LiesIn area start size → IsMet area.entries start size
 
+-- the most entries
+abbrev pub entry_limit : ℕ
+entry_limit = 64
+
 -- there are as many entries as may be
 abbrev pub IsFull : Area → Type 0
-IsFull area = length area.entries ≡ BOOK_LIMIT
+IsFull area = length area.entries ≡ entry_limit
 
 -- two loaded entries are of different sections
 abbrev pub DifferIfLoaded : Entry → Entry → Type 0
@@ -35,11 +38,11 @@ DifferIfLoaded one other = one.state ≡ Loaded → other.state ≡ Loaded → o
 
 -- what holds of every book
 pub record IsBook (area : Area) : Type 0 where
-  pub few : length area.entries ≤ BOOK_LIMIT
+  pub few : length area.entries ≤ entry_limit
   pub above_zero : All (λ entry. 0 < entry.id) area.entries
   pub rising : AllPairs (λ one other. one.id < other.id) area.entries
   pub some_tags : All (λ entry. 1 ≤ entry.length) area.entries
   pub in_area : All (λ entry. LiesIn area entry.start entry.length) area.entries
   pub apart : AllPairs AreApart area.entries
   pub loaded_once : AllPairs DifferIfLoaded area.entries
-  pub small : area.first + area.tags ≤ TAG_LIMIT
+  pub small : area.first + area.tags ≤ 1024

@@ -5,8 +5,7 @@ use Rattle.profile_top.specs.declared.answer.Answer.{Answer}
 use Rattle.outside.specs.Bytes.{Took}
 use Rattle.outside.specs.declared.faults.ReadError.TheVariants.{TooLong}
 use Rattle.profile_top.specs.declared.answer.Mode.{Mode}
-use Rattle.profile_top.specs.declared.answer.TheConstants.{INPUT_LIMIT}
-use Rattle.profile_top.specs.Answers.{Gives, answer_of, answer_in, too_long}
+use Rattle.profile_top.specs.Answers.{Gives, answer_of, answer_in, input_limit, too_long}
 
 at_least : (new : Option (List ℕ)) (input bytes : List ℕ) → Consumes (Some input) new bytes → length bytes ≤ length input
 at_least None input bytes none = absurd none
@@ -14,17 +13,17 @@ at_least (Some rest) input bytes is = let parts : length (bytes ++ rest) ≡ len
     let whole : length input ≡ length (bytes ++ rest) = ap (λ (l : List ℕ). length l) is in
     omega (arith, parts, whole)
 
-long_answer : (mode : Mode) (input : List ℕ) → INPUT_LIMIT < length input → answer_of mode input ≡ too_long
-long_answer mode input h = let long : nat_lt INPUT_LIMIT (length input) ≡ true = lt-ltb INPUT_LIMIT (length input) h in
+long_answer : (mode : Mode) (input : List ℕ) → input_limit < length input → answer_of mode input ≡ too_long
+long_answer mode input h = let long : nat_lt input_limit (length input) ≡ true = lt-ltb input_limit (length input) h in
     ap (λ (b : Bool). if b then too_long else answer_in mode input) long
 
-pub too_long_is : (old new : Option (List ℕ)) → Took INPUT_LIMIT TooLong old new → (mode : Mode) (input : List ℕ) → old ≡ Some input → answer_of mode input ≡ too_long
+pub too_long_is : (old new : Option (List ℕ)) → Took input_limit TooLong old new → (mode : Mode) (input : List ℕ) → old ≡ Some input → answer_of mode input ≡ too_long
 too_long_is old new took mode input e = let taken : Consumes (Some input) new took.bytes = subst (λ (o : Option (List ℕ)). Consumes o new took.bytes) e took.taken in
     let many : length took.bytes ≤ length input = at_least new input took.bytes taken in
-    let amount : length took.bytes ≡ INPUT_LIMIT + 1 = took.amount in
+    let amount : length took.bytes ≡ input_limit + 1 = took.amount in
     long_answer mode input (omega (arith, many, amount))
 
-pub decided_long : (old new taken taken_after : Option (List ℕ)) (status : ℕ) → Took INPUT_LIMIT TooLong old new
+pub decided_long : (old new taken taken_after : Option (List ℕ)) (status : ℕ) → Took input_limit TooLong old new
     → (status ≢ 5 → (status ≡ 1) × Appends taken taken_after too_long.text)
     → (mode : Mode) (input : List ℕ) → old ≡ Some input → status < 2 → (status ≡ (answer_of mode input).status) × Appends taken taken_after (answer_of mode input).text
 decided_long old new taken taken_after status took whole mode input e below =
@@ -40,11 +39,11 @@ all_read (Some whole) (Some rest) read input is end e =
     let all : whole ≡ read = is ∙ ap (λ (l : List ℕ). read ++ l) end ∙ append-nil read in
     sym all ∙ same
 
-short_answer : (mode : Mode) (input : List ℕ) → length input ≤ INPUT_LIMIT → answer_of mode input ≡ answer_in mode input
-short_answer mode input h = let short : nat_lt INPUT_LIMIT (length input) ≡ false = le-ltb INPUT_LIMIT (length input) h in
+short_answer : (mode : Mode) (input : List ℕ) → length input ≤ input_limit → answer_of mode input ≡ answer_in mode input
+short_answer mode input h = let short : nat_lt input_limit (length input) ≡ false = le-ltb input_limit (length input) h in
     ap (λ (b : Bool). if b then too_long else answer_in mode input) short
 
-pub decided_read : (old new taken taken_after : Option (List ℕ)) (read : List ℕ) (status : ℕ) (answer : Answer) (words : Option Mode) (asked : Mode) → Consumes old new read → IsAtEnd new → length read ≤ INPUT_LIMIT
+pub decided_read : (old new taken taken_after : Option (List ℕ)) (read : List ℕ) (status : ℕ) (answer : Answer) (words : Option Mode) (asked : Mode) → Consumes old new read → IsAtEnd new → length read ≤ input_limit
     → words ≡ Some asked → Gives answer (answer_in asked read) → (status ≢ 5 → (status ≡ answer.status) × Appends taken taken_after answer.text.items)
     → (mode : Mode) (input : List ℕ) → words ≡ Some mode → old ≡ Some input → status < 2 → (status ≡ (answer_of mode input).status) × Appends taken taken_after (answer_of mode input).text
 decided_read old new taken taken_after read status answer words asked consumes end within is_asked gives whole mode input is_mode e below =

@@ -16,7 +16,6 @@ use Rattle.profile_top.specs.Schedule.{Played, schedule_of}
 use Rattle.profile_top.specs.declared.answer.Answer.{Answer}
 use Rattle.profile_top.specs.declared.answer.Mode.{Mode}
 use Rattle.profile_top.specs.declared.answer.Mode.TheVariants as mode
-use Rattle.profile_top.specs.declared.answer.TheConstants.{INPUT_LIMIT}
 
 pub record Written : Type 0 where
   pub status : ℕ
@@ -80,9 +79,13 @@ abbrev pub answer_in : Mode → List ℕ → Written
 answer_in mode.Step input = step_read (steps_of input)
 answer_in mode.Check input = if is_schedule input then steps_checked input (steps_of input) else trace_checked input (trace_of input)
 
+-- the most bytes of an input
+abbrev pub input_limit : ℕ
+input_limit = 4194304
+
 -- what is written for an input
 abbrev pub answer_of : Mode → List ℕ → Written
-answer_of mode input = if nat_lt INPUT_LIMIT (length input) then too_long else answer_in mode input
+answer_of mode input = if nat_lt input_limit (length input) then too_long else answer_in mode input
 
 -- the one word of the command line
 abbrev pub mode_word : List ℕ → Option Mode
@@ -103,7 +106,7 @@ pub record Gives (answer : Answer) (written : Written) : Type 0 where
 -- the input that was read: all of it, or one byte more than is read
 pub record IsInput (old new : Option (List ℕ)) (input : List ℕ) : Type 0 where
   pub taken : Consumes old new input
-  pub whole : IsAtEnd new ⊎ (length input ≡ INPUT_LIMIT + 1)
+  pub whole : IsAtEnd new ⊎ (length input ≡ input_limit + 1)
 
 -- the status and the bytes that went out are those of the input
 pub record Served (mode : Mode) (status : ℕ) (left left_after taken taken_after : Option (List ℕ)) : Type 0 where

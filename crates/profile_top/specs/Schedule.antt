@@ -1,7 +1,6 @@
 -- What a schedule means: a fold over its lines that keeps the machine, the modules, the moves of all steps so far and the text so far. It has no words: a word is the sum of the moves on it.
 use Rattle.std.specs.Prelude.{◌≡◌, ℕ, zero, suc, ◌+◌, ◌<◌, ◌≤◌, ◌==◌, nat_lt, Option, Some, None, Result, Ok, Err, List, [], ◌∷◌, ◌++◌, length, if◌then◌else◌, Bool, ⊤}
 use Rattle.tag_model.specs.declared.shape.Shape.{Shape}
-use Rattle.tag_model.specs.declared.limits.TheConstants.{KERNEL_TAGS}
 use Rattle.tag_model.specs.Moves.{Move}
 use Rattle.tag_section.specs.Section.{Section}
 use Rattle.module_area.specs.declared.entry.Entry.{Entry}
@@ -10,7 +9,6 @@ use Rattle.core_steps.specs.declared.op.StepRefused.{StepRefused}
 use Rattle.core_steps.specs.declared.op.Actor.{Actor}
 use Rattle.core_steps.specs.declared.op.Actor.TheVariants as actor
 use Rattle.core_steps.specs.declared.op.Op.{Op}
-use Rattle.core_steps.specs.declared.op.TheConstants.{MAX_QUEUED}
 use Rattle.core_steps.specs.Machine.{Machine}
 use Rattle.core_steps.specs.Modules.{ModuleTable, section_len}
 use Rattle.core_steps.specs.CoreState.{CoreState, IsActor, IsOpOf, refused, stepped, event_of, queued, ops_of, fresh_machine, fresh_modules}
@@ -82,7 +80,7 @@ with_queued s who op p = let next = queued (core_played s p) who op in record p 
 
 -- unless its queue is full
 abbrev pub queues_on : Setting → Actor → Op → Played → Result Played Code
-queues_on s who op p = if nat_lt (length (ops_of (core_played s p) who)) MAX_QUEUED then Ok (with_queued s who op p) else Err code.Queue
+queues_on s who op p = if nat_lt (length (ops_of (core_played s p) who)) 65536 then Ok (with_queued s who op p) else Err code.Queue
 
 -- `all` takes at most as many as the actor has left
 abbrev pub steps_on : Setting → Actor → Option ℕ → Played → Result Played Code
@@ -126,7 +124,7 @@ play s (line ∷ lines) p = at line.line (act_on s (act_of line.act) p) then (pl
 
 -- one CPU and 128 kernel tags at least; frames and vectors aren't used
 abbrev pub shape_of : ℕ → ℕ → Shape
-shape_of cpus area = record { cpus = cpus; tags = KERNEL_TAGS + area; kernel_tags = KERNEL_TAGS; frames = 0; vectors = 0 }
+shape_of cpus area = record { cpus = cpus; tags = 128 + area; kernel_tags = 128; frames = 0; vectors = 0 }
 
 abbrev pub setting : Shape → List Section → Setting
 setting shape sections = record { shape = shape; sections = sections }

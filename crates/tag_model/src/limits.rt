@@ -1,5 +1,7 @@
 //! Every limit of the model, in one place.
 
+ghost use Rattle.std.specs.Prelude.{◌≡◌, ◌^◌};
+
 /// CPUs of a machine.
 pub const MAX_CPUS: u32 = 64;
 
@@ -29,3 +31,17 @@ pub const MAX_HAND_CALLS: u32 = 1_024;
 
 /// The most places that hold references.
 pub const MAX_PLACES: u32 = 327_680;
+
+/// The limits, as numbers.
+pub fn limits_are_these()
+    ensures cpus { MAX_CPUS ≡ 64 }
+    ensures tags { MAX_TAGS ≡ 1024 }
+    ensures kernel_tags { KERNEL_TAGS ≡ 128 }
+    ensures area_tags { AREA_TAGS ≡ 896 }
+    ensures frames { MAX_FRAMES ≡ 1024 }
+    ensures vectors { MAX_VECTORS ≡ 64 }
+    ensures vector_cells { VECTOR_CELLS ≡ 64 }
+    ensures size_end { SIZE_END ≡ 2 ^ 44 }
+    ensures hand_calls { MAX_HAND_CALLS ≡ 1024 }
+    ensures places { MAX_PLACES ≡ 327680 }
+{}

@@ -4,11 +4,10 @@ use Rattle.std.specs.BTreeMap.{BTreeMap, Updates}
 use Rattle.std.proofs.lemmas.List.{get_or_append_left, get_or-append-add, length-set, get_or-set_same, get_or-set_other}
 use Rattle.std.proofs.lemmas.Bool.{cases_lt, cases_eq}
 use Rattle.tag_section.specs.ModuleName.{kernel_name, IsModuleName}
-use Rattle.tag_section.specs.Section.{Section, no_section, section_at, with_section, number_of, tag_limit, AreSections, MayBegin}
+use Rattle.tag_section.specs.Section.{Section, no_section, section_at, with_section, number_of, section_limit, tag_limit, AreSections, MayBegin}
 use Rattle.tag_section.specs.Numbers.{AreNumbers}
 use Rattle.tag_section.proofs.Names.{number_none, number_of-with_section, number_of-set}
 use Rattle.tag_section.proofs.NumberLemmas.{name_cmp, number_at-updates}
-use Rattle.tag_section.specs.declared.sections.TheConstants.{SECTION_LIMIT}
 
 module _ (sections : List Section) (name : List ℕ) where
   at_old : (k : ℕ) → k < length sections → section_at (with_section sections name) k ≡ section_at sections k
@@ -23,7 +22,7 @@ module _ (sections : List Section) (name : List ℕ) where
   long = length-append sections (record { name = name; tags = [] } ∷ [])
 
   -- a section of a new name at the end
-  pub AreSections-with_section : AreSections sections → length sections < SECTION_LIMIT
+  pub AreSections-with_section : AreSections sections → length sections < section_limit
       → (length sections ≡ 0 → name ≡ kernel_name) → (0 < length sections → IsModuleName name)
       → ((k : ℕ) → k < length sections → (section_at sections k).name ≢ name)
       → AreSections (with_section sections name)

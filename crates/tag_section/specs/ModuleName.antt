@@ -3,7 +3,6 @@ use Rattle.std.specs.Prelude.{ℕ, ◌==◌, Bool, ◌&&◌, ◌||◌, not, List
 use Rattle.std.specs.Char.{is_ascii_alphanumeric}
 use Rattle.std.specs.List.{list_all, list_any}
 use Rattle.std.specs.Str.{bytes_eq}
-use Rattle.tag_section.specs.declared.module_name.TheConstants.{NAME_LIMIT}
 
 -- the name of the section of built-in code
 abbrev pub kernel_name : List ℕ
@@ -16,7 +15,7 @@ is_module_byte byte = is_ascii_alphanumeric byte || list_any (λ mark. mark == b
 -- a module's name: 1 to 55 module bytes, and not `kernel`
 unfoldable pub is_module_name : List ℕ → Bool
 is_module_name word =
-    nat_le 1 (length word) && nat_le (length word) NAME_LIMIT && list_all is_module_byte word && not (bytes_eq word kernel_name)
+    nat_le 1 (length word) && nat_le (length word) 55 && list_all is_module_byte word && not (bytes_eq word kernel_name)
 
 -- the word is a module's name
 abbrev pub IsModuleName : List ℕ → Type 0

@@ -3,7 +3,6 @@ use Rattle.std.specs.Prelude.{ℕ, ◌≡◌, ◌≢◌, ◌-◌, ◌<◌, ◌�
 use Rattle.std.specs.Str.{bytes_eq}
 use Rattle.codetag.specs.TagParts.{TagParts}
 use Rattle.tag_section.specs.ModuleName.{kernel_name, IsModuleName}
-use Rattle.tag_section.specs.declared.sections.TheConstants.{SECTION_LIMIT, KERNEL_TAG_LIMIT, MODULE_TAG_LIMIT}
 
 -- a section: its name, and its tags in their order
 pub record Section : Type 0 where
@@ -44,13 +43,17 @@ with_tag sections tag =
     let last = length sections - 1 in
     slice_set sections last (record { name = (section_at sections last).name; tags = (section_at sections last).tags ++ tag ∷ [] })
 
+-- the most sections: the kernel's, and 64 of modules
+abbrev pub section_limit : ℕ
+section_limit = 65
+
 -- the most tags of the section with the number
 abbrev pub tag_limit : ℕ → ℕ
-tag_limit number = if number == 0 then KERNEL_TAG_LIMIT else MODULE_TAG_LIMIT
+tag_limit number = if number == 0 then 128 else 896
 
 -- what holds of every list of sections
 pub record AreSections (sections : List Section) : Type 0 where
-  pub few : length sections ≤ SECTION_LIMIT
+  pub few : length sections ≤ section_limit
   pub kernel_first : 0 < length sections → (section_at sections 0).name ≡ kernel_name
   pub modules_after : (k : ℕ) → 0 < k → k < length sections → IsModuleName (section_at sections k).name
   pub apart : (j k : ℕ) → j < k → k < length sections → (section_at sections j).name ≢ (section_at sections k).name
@@ -60,4 +63,4 @@ pub record AreSections (sections : List Section) : Type 0 where
 abbrev pub MayBegin : List Section → List ℕ → Type 0
 MayBegin [] name = name ≡ kernel_name
 MayBegin (first ∷ others) name =
-    IsModuleName name × IsNone (number_of (first ∷ others) name) × (length (first ∷ others) < SECTION_LIMIT)
+    IsModuleName name × IsNone (number_of (first ∷ others) name) × (length (first ∷ others) < section_limit)

@@ -1,6 +1,6 @@
 ghost use Rattle.std.specs.Prelude.{ℕ, ◌≡◌, ◌≢◌, ◌+◌, ◌-◌, ◌<◌, ◌≤◌, ◌↔◌, List, [], ◌∷◌, ◌++◌, length, Some, IsSome, IsNone, IfSome, IfOk, IfErr, OnOk, OnErr, IsErrOf, All};
 ghost use Rattle.tag_section.specs.ModuleName.{kernel_name, IsModuleName};
-ghost use Rattle.tag_section.specs.Section.{section_at, tag_at, number_of, with_section, with_tag, tag_limit, AreSections, MayBegin};
+ghost use Rattle.tag_section.specs.Section.{section_at, tag_at, number_of, with_section, with_tag, section_limit, tag_limit, AreSections, MayBegin};
 ghost use Rattle.tag_section.specs.Refusals.{IsNameRefusal, IsTagRefusal};
 
 use crate::module_name::{is_kernel, is_module_name};
@@ -140,7 +140,7 @@ impl Sections {
         ensures same_name { IsErrOf result SectionError.SameName
             ↔ ((self.old ≢ []) × IsModuleName name.now × IsSome (number_of self.old name.now)) }
         ensures too_many { IsErrOf result SectionError.TooManySections
-            ↔ ((length self.old ≡ SECTION_LIMIT) × IsModuleName name.now
+            ↔ ((length self.old ≡ section_limit) × IsModuleName name.now
             × IsNone (number_of self.old name.now)) }
         ensures never { ¬ IsErrOf result SectionError.TooManyTags }
         ensures err { OnErr result (self.new ≡ self.old) }
@@ -184,7 +184,7 @@ impl Sections {
         ensures same_name { IsErrOf result SectionError.SameName
             ↔ ((self.now ≢ []) × IsModuleName name.now × IsSome (number_of self.now name.now)) }
         ensures too_many { IsErrOf result SectionError.TooManySections
-            ↔ ((length self.now ≡ SECTION_LIMIT) × IsModuleName name.now
+            ↔ ((length self.now ≡ section_limit) × IsModuleName name.now
             × IsNone (number_of self.now name.now)) }
         ensures only { IfErr result IsNameRefusal }
     {

@@ -1,15 +1,14 @@
 use Rattle.std.proofs.Common.{arith, subst, sym, map}
 use Rattle.std.specs.String.{string_bytes}
-use Rattle.profile_top.specs.Answers.{mode_of}
 use Rattle.outside.specs.Bytes.{Took}
 use Rattle.outside.specs.declared.faults.ReadError.{ReadError}
-use Rattle.profile_top.specs.declared.answer.TheConstants.{INPUT_LIMIT}
+use Rattle.profile_top.specs.Answers.{input_limit, mode_of}
 use Rattle.profile_top.proofs.Serving.{decided_long, decided_read}
 use Rattle.profile_top.proofs.still.memprof_still.Goals as goal
 
 pub returns-in-Err-TooLong-clause-decided : goal.returns-in-Err-TooLong-clause-decided
 returns-in-Err-TooLong-clause-decided g c = λ mode input is_mode. decided_long (g.S.Source.left c.args.source.now) (g.S.Source.left c.read_all.new.source) (g.K.Sink.taken c.args.sink.now) (g.K.Sink.taken c.finish.new.sink) c.finish.result
-    (subst (λ (e : ReadError). Took INPUT_LIMIT e (g.S.Source.left c.args.source.now) (g.S.Source.left c.read_all.new.source)) c.in-Err-TooLong.field-0-is c.in-Err-TooLong.ensures.took)
+    (subst (λ (e : ReadError). Took input_limit e (g.S.Source.left c.args.source.now) (g.S.Source.left c.read_all.new.source)) c.in-Err-TooLong.field-0-is c.in-Err-TooLong.ensures.took)
     c.finish.ensures.whole mode input
 
 pub returns-in-Ok-answer_input-clause-decided : goal.returns-in-Ok-answer_input-clause-decided
