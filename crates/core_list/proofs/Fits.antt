@@ -1,11 +1,10 @@
 -- A sweep goes on to fit its list: what it reads next is a tag of a dead module that is on its list.
-use Rattle.std.proofs.Common.{◌≡◌, ℕ, ◌+◌, ◌^◌, ◌<◌, ◌≤◌, ◌&&◌, nat_lt, nat_le, List, [], ◌∷◌, map, All, refl, sym, subst, arith, Bool, true, lt-ltb, le-leb}
+use Rattle.std.proofs.Common.{◌≡◌, ℕ, ◌+◌, ◌<◌, ◌≤◌, List, [], ◌∷◌, map, All, refl, sym, subst, arith, true}
 use Rattle.std.specs.List.{list_all}
 use Rattle.std.proofs.lemmas.Bool.{and_parts, and_from}
 use Rattle.std.proofs.lemmas.List.Elements.{All-head, All-tail}
 use Rattle.tag_model.specs.declared.shape.Shape.{Shape}
 use Rattle.tag_model.specs.declared.state.Kind.TheVariants.{Bytes}
-use Rattle.tag_model.specs.declared.state.Reader.{Reader}
 use Rattle.tag_model.specs.declared.state.Record.{Record}
 use Rattle.tag_model.specs.declared.state.Sweep.{Sweep}
 use Rattle.tag_model.specs.declared.state.Sweep.TheVariants as sweep
@@ -17,7 +16,7 @@ use Rattle.tag_model.proofs.Passes.{PassBase, SweepOk, begins_pass_ok}
 use Rattle.tag_model.proofs.Records.{dead_are_dead, rises_dead}
 use Rattle.tag_model.proofs.ScanRow.{reading_fits, scan_ok}
 use Rattle.module_area.specs.declared.entry.Entry.{Entry}
-use Rattle.module_area.specs.Area.{Area, LiesIn, IsBook}
+use Rattle.module_area.specs.Area.{Area, IsBook}
 use Rattle.core_list.specs.ListState.{ListState, IsList, record_of, left_ids, records_of, scanned, scanned_at, sum_read, swept_list}
 use Rattle.core_list.proofs.Kept.{list_scanned}
 use Rattle.core_list.proofs.Split.{book_apart, book_rises}

@@ -1,6 +1,5 @@
-use Rattle.std.proofs.Common.{◌≡◌, ◌∙◌, sym, ap, subst, arith, IsTrue}
-use Rattle.tag_model.specs.Laws.{sweep_fits}
-use Rattle.core_list.specs.ListState.{ListState, IsList, records_of}
+use Rattle.std.proofs.Common.{arith}
+use Rattle.core_list.specs.ListState.{records_of}
 use Rattle.core_list.proofs.Fits.{IsWithin, fits_swept, fits_scanned, left_dead}
 use Rattle.core_list.proofs.Kept.{list_swept}
 use Rattle.core_list.proofs.tests.sweep.Goals as goal

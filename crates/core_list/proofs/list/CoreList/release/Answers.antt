@@ -6,7 +6,7 @@ use Rattle.core_list.specs.declared.list.Next.TheVariants.{Release}
 use Rattle.core_list.specs.ListState.{ListState, IsList, left_ids, next_of, records_of, released}
 use Rattle.core_list.specs.Stages.{sweep_of}
 use Rattle.core_list.proofs.Kept.{list_of, list_released}
-use Rattle.core_list.proofs.Methods.{Releasing, releasing, releases_dead, released_as}
+use Rattle.core_list.proofs.Methods.{releasing, releases_dead, released_as}
 use Rattle.core_list.proofs.list.CoreList.release.Goals as goal
 
 pub release-requires : goal.release-requires
