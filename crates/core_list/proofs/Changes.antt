@@ -1,5 +1,5 @@
 -- Each change of the list is a step of the step rules.
-use Rattle.std.proofs.Common.{◌≡◌, ℕ, ◌+◌, ◌<◌, ◌≤◌, ◌==◌, List, [], ◌∷◌, ◌++◌, map, filter, slice_index, Some, None, refl, sym, ap, ◌∙◌, subst, arith, not, eq-eqb}
+use Rattle.std.proofs.Common.{◌≡◌, ℕ, ◌+◌, ◌≤◌, List, [], ◌∷◌, ◌++◌, map, slice_index, Some, None, refl, sym, ap, ◌∙◌, arith, eq-eqb}
 use Rattle.std.proofs.lemmas.Bool.{or_left}
 use Rattle.std.proofs.lemmas.List.{map-append}
 use Rattle.tag_model.specs.declared.shape.Shape.{Shape}
@@ -9,16 +9,15 @@ use Rattle.tag_model.specs.declared.state.ListPart.{ListPart}
 use Rattle.tag_model.specs.declared.state.Reader.{Reader}
 use Rattle.tag_model.specs.declared.state.Record.{Record}
 use Rattle.tag_model.specs.declared.state.Run.{Run}
-use Rattle.tag_model.specs.declared.state.Sweep.{Sweep}
 use Rattle.tag_model.specs.declared.state.Sweep.TheVariants as sweep
-use Rattle.tag_model.specs.StepRules.{Enters, Leaves, Loads, MarksDead, Releases, Scans, Sweeps, begins_pass, run_on, without_id}
+use Rattle.tag_model.specs.StepRules.{Enters, Leaves, Loads, MarksDead, Releases, Scans, begins_pass, without_id}
 use Rattle.tag_model.specs.WordState.{word_place}
 use Rattle.module_area.specs.declared.entry.Entry.{Entry}
 use Rattle.module_area.specs.declared.entry.State.TheVariants.{Loaded}
 use Rattle.module_area.specs.Entries.{entry_of, entered, left, kept}
-use Rattle.core_list.specs.ListState.{ListState, IsList, record_of, is_dead, dead_list, entered_list, left_list, list_part, load_refusal, loaded, or_zero, least_start, records_of, released, released_at, run_of, scanned, scanned_at, new_entry}
-use Rattle.core_list.proofs.Split.{EntryAt, book_entry_at, records_at, records_changed, records_without}
-use Rattle.core_list.proofs.Room.{MayLoad, may_load, FreeAt, least_is_free, unmet_clear}
+use Rattle.core_list.specs.ListState.{ListState, IsList, record_of, is_dead, dead_list, entered_list, left_list, list_part, load_refusal, loaded, or_zero, least_start, released, released_at, run_of, scanned, scanned_at, new_entry}
+use Rattle.core_list.proofs.Split.{book_entry_at, records_at, records_changed, records_without}
+use Rattle.core_list.proofs.Room.{may_load, least_is_free, unmet_clear}
 
 pub row-enters : (l : ListState) (n id : ℕ) (e : Entry) (away : List Run) → IsList l → entry_of l.area.entries id ≡ Some e → e.state ≡ Loaded → Enters (list_part n away l) (list_part n (run_of e ∷ away) (entered_list id l))
 row-enters l n id e away ok found loaded =

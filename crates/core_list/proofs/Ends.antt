@@ -1,5 +1,5 @@
 -- Each step of a sweep leaves fewer steps, and a sweep that begins has at most two reads for each CPU and tag, and a release for each module.
-use Rattle.std.proofs.Common.{◌≡◌, ℕ, suc, ◌+◌, ◌-◌, ◌*◌, ◌<◌, ◌≤◌, ◌==◌, ◌&&◌, nat_lt, List, [], ◌∷◌, ◌++◌, length, map, sum_by, All, find, Option, Some, None, refl, sym, ap, ◌∙◌, subst, arith, Bool, true, false, not, cond, eqb-true, ltb-true, ltb-false, eq-eqb, if◌then◌else◌}
+use Rattle.std.proofs.Common.{◌≡◌, ℕ, suc, ◌+◌, ◌-◌, ◌*◌, ◌<◌, ◌≤◌, ◌==◌, ◌&&◌, nat_lt, List, [], ◌∷◌, ◌++◌, length, map, sum_by, All, find, Option, Some, None, refl, sym, ap, ◌∙◌, subst, arith, Bool, true, false, not, cond, eqb-true, ltb-true, eq-eqb, if◌then◌else◌}
 use Rattle.std.specs.List.{list_any}
 use Rattle.std.proofs.Math.Nat.{mul-le-mul_left, mul-suc, mul_assoc}
 use Rattle.std.proofs.lemmas.Bool.{and_parts, and_from, and_right, or_left, or_from, le-ltb, lt-ltb, ne_eqb, eqb-false, cond_both, cond-true, cond-false}
@@ -12,7 +12,6 @@ use Rattle.tag_model.specs.declared.state.Kind.{Kind}
 use Rattle.tag_model.specs.declared.state.Kind.TheVariants.{Bytes, Calls}
 use Rattle.tag_model.specs.declared.state.Reader.{Reader}
 use Rattle.tag_model.specs.declared.state.Record.{Record}
-use Rattle.tag_model.specs.declared.state.Sweep.{Sweep}
 use Rattle.tag_model.specs.declared.state.Sweep.TheVariants as sweep
 use Rattle.tag_model.specs.Laws.{is_listed, are_dead, ids_of, rises_from, sweep_fits}
 use Rattle.tag_model.specs.StepRules.{after_pass, begins_pass, dead_ids, end_of, goes_on, passes_record, reads_from, start_of, sweep_after, without_id}
@@ -20,15 +19,15 @@ use Rattle.tag_model.specs.WordState.{in_range}
 use Rattle.tag_model.proofs.Found.{any_at, sum_at}
 use Rattle.tag_model.proofs.Ids.{rises_cons, find_some, listed_without, rises_without, dead_without}
 use Rattle.tag_model.proofs.Lists.{in_range_means, listed_is_dead}
-use Rattle.tag_model.proofs.Records.{dead_are_dead, rises_dead}
+use Rattle.tag_model.proofs.Records.{dead_are_dead}
 use Rattle.tag_model.proofs.ScanRow.{reading_fits}
 use Rattle.module_area.specs.declared.entry.Entry.{Entry}
 use Rattle.module_area.specs.declared.book.TheConstants.{BOOK_LIMIT}
 use Rattle.module_area.specs.Entries.{entry_of, with_entry, kept}
 use Rattle.module_area.specs.Area.{Area, LiesIn, IsBook}
 use Rattle.module_area.proofs.EntryLemmas.{find_some as find_passes}
-use Rattle.core_list.specs.ListState.{ListState, IsList, record_of, end_in, start_in, tags_of, tags_behind, reads_in_pass, reads_behind, steps_at, sweep_steps, most_steps, scanned, scanned_at, sum_read, released, released_at, records_of, dead_list, swept_list}
-use Rattle.core_list.proofs.Split.{EntryAt, book_entry_at, book_rises, records_changed, the_entry, entry_holds, start_found, end_found}
+use Rattle.core_list.specs.ListState.{ListState, IsList, record_of, end_in, start_in, tags_of, tags_behind, reads_behind, steps_at, sweep_steps, most_steps, scanned, scanned_at, sum_read, released, released_at, records_of, dead_list, swept_list}
+use Rattle.core_list.proofs.Split.{book_entry_at, book_rises, records_changed, the_entry, entry_holds, start_found}
 use Rattle.core_list.proofs.Kept.{without_shorter, without_not_longer, dead_not_more, list_dead_marked}
 
 -- ---- products

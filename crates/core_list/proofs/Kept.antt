@@ -1,7 +1,7 @@
 -- Each change leaves a list that is one: the book stays a book, and the stops and the ids that are left are few.
 use Rattle.std.proofs.Common.{◌≡◌, ℕ, ◌+◌, ◌<◌, ◌≤◌, ◌==◌, ◌⊎◌, ◌≢◌, ◌&&◌, ◌∙◌, ap, nat_lt, List, [], ◌∷◌, ◌++◌, length, get_or, slice_get, take, map, filter, find, All, AllPairs, Option, Some, None, refl, sym, subst, inl, inr, arith, Bool, true, false, not, cond, eq-eqb}
 use Rattle.std.specs.List.{list_any}
-use Rattle.std.proofs.lemmas.Bool.{and_parts, and_from, not-true, or_parts, cases_Bool, both_ways, cond-false, false≢true, ltb-true, eqb-true, lt-ltb}
+use Rattle.std.proofs.lemmas.Bool.{or_parts, both_ways, cond-false, false≢true}
 use Rattle.std.proofs.lemmas.List.{length-map, length-append, get_or-map, map-append, map_more}
 use Rattle.std.proofs.lemmas.List.Elements.{All-map, All-filter, All-push, All-weaker, filter-append}
 use Rattle.std.proofs.lemmas.Option.{slice_get-get_or, same_Some}
@@ -19,16 +19,15 @@ use Rattle.tag_model.specs.StepRules.{begins_pass, after_pass, goes_on, passes_r
 use Rattle.tag_model.proofs.Ids.{listed_cons}
 use Rattle.tag_model.proofs.ScanRow.{reading_fits}
 use Rattle.module_area.specs.declared.entry.Entry.{Entry}
-use Rattle.module_area.specs.declared.entry.State.TheVariants.{Loaded, Dead}
 use Rattle.module_area.specs.declared.book.TheConstants.{BOOK_LIMIT}
-use Rattle.module_area.specs.Entries.{AreApart, IsFree, IsLoadedAs, is_loaded_as, meets, with_entry, without_entry, entered, left as one_left, kept}
+use Rattle.module_area.specs.Entries.{AreApart, IsFree, IsLoadedAs, is_loaded_as, meets, entered, left as one_left, kept}
 use Rattle.module_area.specs.Area.{Area, LiesIn, DifferIfLoaded, IsBook}
 use Rattle.module_area.proofs.EntryLemmas.{find_none}
 use Rattle.module_area.proofs.StartLemmas.{free_from_none}
 use Rattle.module_area.proofs.BookLemmas.{KeepsRange, IsBook-filter, IsBook-push}
 use Rattle.core_list.specs.declared.list.TheConstants.{LAST_ID}
-use Rattle.core_list.specs.ListState.{ListState, IsList, is_dead, record_of, records_of, left_ids, load_refusal, loaded, loaded_entry, new_entry, or_zero, least_start, with_changed, entered_list, left_list, dead_list, swept_list, sum_read, scanned, scanned_at, released, released_at}
-use Rattle.core_list.proofs.Room.{MayLoad, may_load, FreeAt, least_is_free}
+use Rattle.core_list.specs.ListState.{ListState, IsList, is_dead, record_of, records_of, left_ids, load_refusal, loaded, new_entry, or_zero, least_start, with_changed, entered_list, left_list, dead_list, swept_list, sum_read, scanned, scanned_at, released, released_at}
+use Rattle.core_list.proofs.Room.{may_load, least_is_free}
 
 -- a list by its parts
 abbrev pub list_of : Area → ℕ → Sweep → List Stop → ListState

@@ -5,3 +5,4 @@ pub mod Kept
 pub mod Refused
 pub mod Methods
 pub mod Ends
+pub mod Fits

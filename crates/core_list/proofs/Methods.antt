@@ -1,7 +1,7 @@
 -- What a method leaves in the parts of the list is what the change says.
-use Rattle.std.proofs.Common.{◌≡◌, ◌≢◌, ℕ, ◌+◌, ◌<◌, ◌≤◌, ◌==◌, ◌&&◌, nat_lt, List, [], ◌∷◌, ◌++◌, map, IsSomeAnd, Option, Some, None, refl, sym, ap, ◌∙◌, subst, arith, Bool, true, false, not, cond, ne_eqb}
-use Rattle.std.specs.List.{list_any, list_all}
-use Rattle.std.proofs.lemmas.Bool.{and_parts, and_from, le-ltb, cond-true, cond-false, false≢true, not_from_false}
+use Rattle.std.proofs.Common.{◌≡◌, ◌≢◌, ℕ, ◌+◌, ◌<◌, ◌≤◌, ◌==◌, ◌&&◌, nat_lt, List, [], ◌∷◌, ◌++◌, map, IsSomeAnd, refl, sym, ap, ◌∙◌, subst, arith, Bool, true, false, not, ne_eqb}
+use Rattle.std.specs.List.{list_any}
+use Rattle.std.proofs.lemmas.Bool.{and_parts, le-ltb, false≢true, not_from_false}
 use Rattle.tag_model.specs.declared.shape.Shape.{Shape}
 use Rattle.tag_model.specs.declared.state.Reader.{Reader}
 use Rattle.tag_model.specs.declared.state.Record.{Record}
@@ -9,23 +9,21 @@ use Rattle.tag_model.specs.declared.state.Stop.{Stop}
 use Rattle.tag_model.specs.declared.state.Sweep.{Sweep}
 use Rattle.tag_model.specs.declared.state.Sweep.TheVariants as sweep
 use Rattle.tag_model.specs.Laws.{are_dead, sweep_fits}
-use Rattle.tag_model.specs.StepRules.{end_of, passes_record, stop_after, sweep_after, without_id}
+use Rattle.tag_model.specs.StepRules.{passes_record, stop_after, sweep_after, without_id}
 use Rattle.tag_model.specs.WordState.{in_range}
 use Rattle.tag_model.proofs.Found.{any_at}
 use Rattle.tag_model.proofs.Lists.{in_range_means}
 use Rattle.tag_model.proofs.ScanRow.{reading_fits}
-use Rattle.module_area.specs.declared.entry.Entry.{Entry}
 use Rattle.module_area.specs.declared.entry.State.{State}
 use Rattle.module_area.specs.declared.entry.State.TheVariants.{Loaded, Dead}
 use Rattle.module_area.specs.declared.book.TheConstants.{TAG_LIMIT}
 use Rattle.module_area.specs.Entries.{entry_of, without_entry}
 use Rattle.module_area.specs.Area.{Area, LiesIn, IsBook}
-use Rattle.core_list.specs.declared.list.Next.{Next}
-use Rattle.core_list.specs.declared.list.Next.TheVariants.{Nothing, Read, Release}
+use Rattle.core_list.specs.declared.list.Next.TheVariants.{Release}
 use Rattle.core_list.specs.declared.list.Stage.{Stage}
 use Rattle.core_list.specs.declared.list.Stage.TheVariants.{Idle, Reading, Done}
 use Rattle.core_list.specs.Stages.{sweep_of}
-use Rattle.core_list.specs.ListState.{ListState, record_of, is_dead, left_ids, next_of, released, scanned, sum_read}
+use Rattle.core_list.specs.ListState.{record_of, is_dead, left_ids, next_of, released, scanned, sum_read}
 use Rattle.core_list.proofs.Kept.{list_of}
 use Rattle.core_list.proofs.Split.{the_entry, entry_holds}
 

@@ -1,19 +1,17 @@
 -- Why a module may be loaded: what the refusal's being none says, and what the least start is.
-use Rattle.std.proofs.Common.{◌≡◌, ◌≢◌, ℕ, ◌+◌, ◌<◌, ◌≤◌, ◌==◌, ◌&&◌, ◌||◌, nat_lt, nat_le, List, [], ◌∷◌, map, count_by, find, All, Option, Some, None, refl, sym, ap, ◌∙◌, subst, arith, Bool, true, false, not, cond, eqb-true, leb-true, inl, inr, length, ◌⊎◌, if◌then◌else◌}
+use Rattle.std.proofs.Common.{◌≡◌, ◌≢◌, ℕ, ◌+◌, ◌<◌, ◌≤◌, ◌==◌, ◌||◌, nat_lt, nat_le, List, [], ◌∷◌, map, count_by, Option, Some, None, refl, arith, Bool, true, false, not, cond, leb-true, inl, inr, length, ◌⊎◌, if◌then◌else◌}
 use Rattle.std.specs.List.{list_any, range_with_len}
 use Rattle.std.proofs.lemmas.Bool.{and_parts, not-true, or_parts, and_cases, and_left, and_right, eqb-false, ltb-false, le-ltb, lt-leb, cond-false}
 use Rattle.std.proofs.lemmas.List.FromFn.{length-range_with_len, get_or-range_with_len}
-use Rattle.std.proofs.lemmas.List.Elements.{All-head, All-tail, All-cons, All-nil}
 use Rattle.std.proofs.lemmas.List.Sums.{sum_by-cons}
 use Rattle.tag_model.specs.declared.state.Record.{Record}
 use Rattle.tag_model.specs.WordState.{in_range}
 use Rattle.module_area.specs.declared.entry.Entry.{Entry}
 use Rattle.module_area.specs.declared.book.TheConstants.{BOOK_LIMIT}
-use Rattle.module_area.specs.declared.book.AreaError.{AreaError}
-use Rattle.module_area.specs.declared.book.AreaError.TheVariants.{SameName, BookFull, NoRoom}
-use Rattle.module_area.specs.Entries.{meets, is_loaded_as}
+use Rattle.module_area.specs.declared.book.AreaError.TheVariants.{SameName, BookFull}
+use Rattle.module_area.specs.Entries.{meets}
 use Rattle.module_area.specs.Area.{Area}
-use Rattle.module_area.proofs.EntryLemmas.{find_some, find_none}
+use Rattle.module_area.proofs.EntryLemmas.{find_some}
 use Rattle.core_list.specs.declared.list.TheConstants.{LAST_ID}
 use Rattle.core_list.specs.ListState.{ListState, record_of, load_refusal, loaded_entry, is_some_entry, unless_room, is_free_at, least_start}
 

@@ -1,7 +1,7 @@
 -- The entries of a book as records of the list: ids stand once and rise, and the entry of an id stands between others.
-use Rattle.std.proofs.Common.{◌≡◌, ℕ, suc, ◌+◌, ◌<◌, ◌≤◌, ◌==◌, List, [], ◌∷◌, ◌++◌, map, filter, count_by, sum_by, inl, inr, ◌&&◌, ◌||◌, Option, None, All, AllPairs, Some, refl, sym, ap, ◌∙◌, subst, arith, Bool, true, false, not, cond, eqb-true, eq-eqb, ne_eqb, lt-ltb}
+use Rattle.std.proofs.Common.{◌≡◌, ℕ, suc, ◌+◌, ◌<◌, ◌≤◌, ◌==◌, List, [], ◌∷◌, ◌++◌, map, filter, count_by, sum_by, inl, inr, ◌&&◌, ◌||◌, Option, None, All, AllPairs, Some, refl, ap, ◌∙◌, subst, arith, Bool, true, false, not, cond, eqb-true, eq-eqb, ne_eqb, lt-ltb}
 use Rattle.std.specs.List.{list_any}
-use Rattle.std.proofs.lemmas.Bool.{and_from, and_parts, or_cases, false≢true, cond-true, cond-false, eqb-false}
+use Rattle.std.proofs.lemmas.Bool.{and_from, and_parts, or_cases, false≢true, cond-true, cond-false}
 use Rattle.std.proofs.lemmas.List.{map-append}
 use Rattle.std.proofs.lemmas.List.Elements.{All-head, All-contains}
 use Rattle.std.proofs.lemmas.List.Sums.{sum_by-cons}

@@ -1,12 +1,11 @@
-use Rattle.std.proofs.Common.{◌≡◌, ◌++◌, ◌∷◌, [], ℕ, ◌≤◌, ◌<◌, length, List, map, take, refl, sym, ap, ◌∙◌, arith, rules, Bool, true, false, cond}
+use Rattle.std.proofs.Common.{◌≡◌, ◌∷◌, [], ◌≤◌, ◌<◌, length, take, refl, sym, ap, ◌∙◌, arith}
 use Rattle.std.proofs.lemmas.Bool.{cond-true, cond-false}
 use Rattle.std.proofs.lemmas.List.{append-nil, length-take}
 use Rattle.module_area.specs.declared.entry.State.{State}
 use Rattle.module_area.specs.declared.entry.State.TheVariants.{Loaded, Dead}
 use Rattle.module_area.specs.contracts.entry.State.{the_type}
 use denote.Enum.Bare.{sameb}
-use Rattle.tag_model.specs.StepRules.{dead_ids}
-use Rattle.core_list.specs.ListState.{record_of, is_dead}
+use Rattle.core_list.specs.ListState.{is_dead}
 use Rattle.core_list.proofs.Kept.{dead_more, dead_not_more}
 use Rattle.core_list.proofs.list.list_dead.Goals.{then-eq, else-eq}
 use Rattle.core_list.proofs.list.list_dead.Goals as goal

@@ -1,8 +1,5 @@
 use Rattle.std.proofs.Common.{refl, sym}
 use Rattle.std.proofs.lemmas.Result.{err_from_is_err_and}
-use Rattle.module_area.specs.declared.book.AreaError.{AreaError}
-use Rattle.module_area.specs.Area.{Area}
-use Rattle.core_list.specs.ListState.{ListState, load_refusal, loaded}
 use Rattle.core_list.specs.Stages.{sweep_of}
 use Rattle.core_list.proofs.Kept.{list_of}
 use Rattle.core_list.proofs.Refused.{Says, refused_as, accepted_at, least_start_is}

@@ -2,7 +2,7 @@ use Rattle.std.proofs.Common.{◌≡◌, ℕ, List, [], ◌∷◌, map, refl, sy
 use Rattle.tag_model.specs.declared.state.Kind.TheVariants.{Bytes}
 use Rattle.tag_model.specs.StepRules.{begins_pass}
 use Rattle.module_area.specs.Area.{Area}
-use Rattle.core_list.specs.ListState.{IsList, record_of, dead_list}
+use Rattle.core_list.specs.ListState.{IsList, record_of}
 use Rattle.core_list.specs.Stages.{sweep_of}
 use Rattle.core_list.proofs.Kept.{list_of, list_dead_marked}
 use Rattle.core_list.proofs.Methods.{same_list}

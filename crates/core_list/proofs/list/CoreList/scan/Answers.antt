@@ -1,6 +1,5 @@
-use Rattle.std.proofs.Common.{◌≡◌, ℕ, ◌==◌, not, List, [], ◌∷◌, ◌++◌, map, rules, refl, sym, ap, ◌∙◌, subst, arith, IsTrue}
+use Rattle.std.proofs.Common.{◌≡◌, ℕ, ◌==◌, not, [], ◌∷◌, ◌++◌, map, rules, refl, sym, ap, ◌∙◌, subst, arith, IsTrue}
 use Rattle.std.proofs.lemmas.Fn.{filter_same}
-use Rattle.tag_model.specs.declared.state.Sweep.TheVariants as sweep
 use Rattle.tag_model.specs.declared.state.Stop.{Stop}
 use Rattle.tag_model.specs.Laws.{sweep_fits}
 use Rattle.tag_model.specs.StepRules.{without_id, passes_record}
