@@ -26,3 +26,4 @@ pub mod RunsTold
 pub mod InsideTags
 pub mod Sweeping
 pub mod ManagerRelease
+pub mod SweepBounds
