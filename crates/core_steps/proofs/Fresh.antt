@@ -204,6 +204,7 @@ modules_fresh k sections checked = record {
   tags = omega (arith, checked.few_kernel_tags);
   entries = λ i d l. absurd (omega arith);
   ops = tt;
+  some_op = λ on. cc;
   goes_on = λ on. cc;
 }
 

@@ -214,6 +214,7 @@ modules_with k sections ms ok cpu below section within o fits id change keeps li
   entries = All-map (EntryFits sections) (λ e. cond (e.id == id) (change e) e) ms.list.area.entries
       (All-weaker (EntryFits sections) (λ e. EntryFits sections (cond (e.id == id) (change e) e)) (fits_changed sections id change keeps) ms.list.area.entries ok.entries);
   ops = ok.ops;
+  some_op = ok.some_op;
   goes_on = ok.goes_on;
 }
   where

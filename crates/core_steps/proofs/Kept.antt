@@ -23,11 +23,10 @@ use Rattle.tag_model.specs.declared.state.Hand.{Hand}
 use Rattle.tag_model.specs.declared.state.Held.{Held}
 use Rattle.core_steps.specs.declared.op.Op.{Op}
 use Rattle.core_steps.specs.declared.op.Op.TheVariants.{Open, Close, Split, Swap, Trim, Enter, Leave, Load, Unload, Clean}
-use Rattle.core_steps.specs.declared.step.WordStep.TheVariants.{BeginAllocation, AddBytes, AddCall, SubtractBytes, SubtractCall, Write, GoIn, GoOut}
+use Rattle.core_steps.specs.declared.step.WordStep.TheVariants.{GoIn, GoOut}
 use Rattle.core_steps.specs.declared.step.WordStep.{WordStep}
 use Rattle.core_steps.specs.declared.op.StepRefused.TheVariants.{NoStep}
-use Rattle.core_steps.specs.declared.op.TheConstants.{KEY_END}
-use Rattle.core_steps.specs.Machine.{Waiting, Machine, Scene, machine_after, places_after, tag_in, part_key, share_step, put_step, clear_step, put_down, in_hand, held_at, bytes_in, nothing_waits, reserves, names_key, hand_at, waiting_at, step_of, hand_after, words_after, advanced, first_refusal, refusal_in, refusal_of, stepped_by, after_step, step_count, KeysFit, HasCall, CanTake, machine_of}
+use Rattle.core_steps.specs.Machine.{Waiting, Machine, Scene, machine_after, places_after, part_key, share_step, nothing_waits, reserves, names_key, hand_at, waiting_at, step_of, hand_after, words_after, advanced, first_refusal, refusal_in, refusal_of, stepped_by, after_step, step_count, KeysFit, HasCall, CanTake, machine_of}
 use Rattle.core_steps.specs.CoreState.{CoreState, AreModules, SectionsFit, TagFits, ListFits, runs_in, runs_of, list_parts, state_with, state_after, modules_stepped, modules_after_step, refused, stepped, IsReady, IsReadyAt, IsMachine, IsCore, IsUnderWay, IsOp, words_at, words_stepped, words_after_step, state_of, CanGo, CanStep}
 use Rattle.core_steps.proofs.Ready.{Next, next, others_ready, free_key, running_first}
 use Rattle.core_steps.proofs.Takes.{IsRuled, places_fit, leads_step, hand_seen, can_take, length-places_after, length-words_after}
@@ -131,9 +130,21 @@ words_kept tags words cpu step hand below each i within = elim (cases_eq i cpu) 
   | inr ne ↦ rw (get_or-set_other words cpu i (words_after step hand (words_at words cpu)) [] ne) (each i within)
 ]
 
--- ---- the modules stay where the step is one on words and places
+-- ---- the modules stay where the op neither goes in nor out
 
-module _ (ms : ModuleTable) (cpu : ℕ) where
+abbrev pub stays_out : Op → Bool
+stays_out (Open key section index size) = true
+stays_out (Close key) = true
+stays_out (Split key parts first) = true
+stays_out (Swap one two) = true
+stays_out (Trim key bytes) = true
+stays_out (Enter section) = false
+stays_out (Leave section) = false
+stays_out (Load section) = true
+stays_out (Unload section) = true
+stays_out Clean = true
+
+module _ (ms : ModuleTable) (cpu done : ℕ) (hand : Option Hand) (places : List Held) (inside : List (Option Run)) where
   stay_if : (b : Bool) (x y : WordStep) → modules_after x ms cpu ≡ ms → modules_after y ms cpu ≡ ms → modules_after (cond b x y) ms cpu ≡ ms
   stay_if true x y h g = h
   stay_if false x y h g = g
@@ -141,6 +152,18 @@ module _ (ms : ModuleTable) (cpu : ℕ) where
   stay_share : (key : ℕ) (hand : Option Hand) → modules_after (share_step key hand) ms cpu ≡ ms
   stay_share key None = refl
   stay_share key (Some h) = refl
+
+  pub stay_out : (op : Op) → stays_out op ≡ true → modules_after (step_of op done hand places inside) ms cpu ≡ ms
+  stay_out (Open key section index size) out = stay_if (done == 0) _ _ refl (stay_if (done == 1) _ _ refl refl)
+  stay_out (Close key) out = stay_if (done == 0) _ _ refl (stay_if (done == 1) _ _ refl refl)
+  stay_out (Split key parts first) out = stay_if (done == 0) _ _ refl (stay_if (nat_lt done parts) _ _ refl (stay_share (part_key key first (done - parts)) hand))
+  stay_out (Swap one two) out = stay_if (done == 0) _ _ refl (stay_if (done == 1) _ _ refl refl)
+  stay_out (Trim key bytes) out = stay_if (done == 0) _ _ refl (stay_if (done == 1) _ _ refl refl)
+  stay_out (Enter section) out = absurd (cc)
+  stay_out (Leave section) out = absurd (cc)
+  stay_out (Load section) out = refl
+  stay_out (Unload section) out = refl
+  stay_out Clean out = refl
 
 -- ---- a core stays a core
 
@@ -160,6 +183,9 @@ after_ops reads s cpu ops done = state_of reads (stepped_by s.machine (inside_at
 module _ (s : CoreState) (cpu : ℕ) (core : IsCore s) (below : cpu < s.shape.cpus) where
   here : List (Option Run)
   here = inside_at s.modules cpu
+
+  pub stay_now : (op : Op) (done : ℕ) → stays_out op ≡ true → modules_after (step_of op done (hand_at s.machine cpu) s.machine.places (inside_at s.modules cpu)) s.modules cpu ≡ s.modules
+  stay_now op done out = stay_out s.modules cpu done (hand_at s.machine cpu) s.machine.places (inside_at s.modules cpu) op out
 
   word_leads : (reads : ℕ) (op : Op) (ops : List Op) (done : ℕ) → IsRuled s.shape (runs_in (inside_at s.modules cpu)) (step_of op done (hand_at s.machine cpu) s.machine.places (inside_at s.modules cpu)) (hand_at s.machine cpu) s.machine.places
       → modules_after (step_of op done (hand_at s.machine cpu) s.machine.places (inside_at s.modules cpu)) s.modules cpu ≡ s.modules
@@ -184,12 +210,11 @@ module _ (s : CoreState) (cpu : ℕ) (core : IsCore s) (below : cpu < s.shape.cp
       → (done ≡ 0 → first_refusal s.machine.places s.machine.waiting (scene_at s.modules cpu) op ≡ None)
       → Next s.shape s.sections (inside_at s.modules cpu) s.machine.places (hand_at s.machine cpu) op ops done
       → StepsWith s.shape (state_after reads s) (after_ops reads s cpu (op ∷ ops) done)
-  leads_op reads (Open key section index size) ops done ready free n = word_leads reads (Open key section index size) ops done n.ruled (stay_if s.modules cpu (done == 0) _ _ refl (stay_if s.modules cpu (done == 1) _ _ refl refl))
-  leads_op reads (Close key) ops done ready free n = word_leads reads (Close key) ops done n.ruled (stay_if s.modules cpu (done == 0) _ _ refl (stay_if s.modules cpu (done == 1) _ _ refl refl))
-  leads_op reads (Split key parts first) ops done ready free n = word_leads reads (Split key parts first) ops done n.ruled
-      (stay_if s.modules cpu (done == 0) _ _ refl (stay_if s.modules cpu (nat_lt done parts) _ _ refl (stay_share s.modules cpu (part_key key first (done - parts)) (hand_at s.machine cpu))))
-  leads_op reads (Swap one two) ops done ready free n = word_leads reads (Swap one two) ops done n.ruled (stay_if s.modules cpu (done == 0) _ _ refl (stay_if s.modules cpu (done == 1) _ _ refl refl))
-  leads_op reads (Trim key bytes) ops done ready free n = word_leads reads (Trim key bytes) ops done n.ruled (stay_if s.modules cpu (done == 0) _ _ refl (stay_if s.modules cpu (done == 1) _ _ refl refl))
+  leads_op reads (Open key section index size) ops done ready free n = word_leads reads (Open key section index size) ops done n.ruled (stay_now (Open key section index size) done refl)
+  leads_op reads (Close key) ops done ready free n = word_leads reads (Close key) ops done n.ruled (stay_now (Close key) done refl)
+  leads_op reads (Split key parts first) ops done ready free n = word_leads reads (Split key parts first) ops done n.ruled (stay_now (Split key parts first) done refl)
+  leads_op reads (Swap one two) ops done ready free n = word_leads reads (Swap one two) ops done n.ruled (stay_now (Swap one two) done refl)
+  leads_op reads (Trim key bytes) ops done ready free n = word_leads reads (Trim key bytes) ops done n.ruled (stay_now (Trim key bytes) done refl)
   leads_op reads (Enter section) ops done ready free n =
       let first : done ≡ 0 = omega (arith, ready.0.within) in
       list_leads reads (Enter section) ops (GoIn section) (advanced (Enter section ∷ ops) done) (modules_after (GoIn section) s.modules cpu) refl refl refl
@@ -206,15 +231,11 @@ module _ (s : CoreState) (cpu : ℕ) (core : IsCore s) (below : cpu < s.shape.cp
   modules_op : (op : Op) (ops : List Op) (done : ℕ) → IsReady s.sections s.machine.places (hand_at s.machine cpu) (op ∷ ops) done
       → (done ≡ 0 → first_refusal s.machine.places s.machine.waiting (scene_at s.modules cpu) op ≡ None)
       → AreModules s.shape s.sections (modules_stepped s.machine s.modules cpu (op ∷ ops) done)
-  modules_op (Open key section index size) ops done ready free = rw (stay_if s.modules cpu (done == 0) (BeginAllocation (tag_in (inside_at s.modules cpu) section index)) _ refl (stay_if s.modules cpu (done == 1) (AddBytes size) (put_step key (hand_at s.machine cpu)) refl refl)) core.modules
-  modules_op (Close key) ops done ready free = rw (stay_if s.modules cpu (done == 0) (clear_step key s.machine.places) _ refl (stay_if s.modules cpu (done == 1) (SubtractBytes (bytes_in (hand_at s.machine cpu))) SubtractCall refl refl)) core.modules
-  modules_op (Split key parts first) ops done ready free =
-      rw (stay_if s.modules cpu (done == 0) (clear_step key s.machine.places) _ refl
-      (stay_if s.modules cpu (nat_lt done parts) AddCall (share_step (part_key key first (done - parts)) (hand_at s.machine cpu)) refl (stay_share s.modules cpu (part_key key first (done - parts)) (hand_at s.machine cpu)))) core.modules
-  modules_op (Swap one two) ops done ready free =
-      rw (stay_if s.modules cpu (done == 0) (clear_step one s.machine.places) _ refl (stay_if s.modules cpu (done == 1) (Write two (put_down (hand_at s.machine cpu)) (in_hand (held_at s.machine.places two))) (put_step one (hand_at s.machine cpu)) refl refl)) core.modules
-  modules_op (Trim key bytes) ops done ready free =
-      rw (stay_if s.modules cpu (done == 0) (clear_step key s.machine.places) _ refl (stay_if s.modules cpu (done == 1) (SubtractBytes bytes) (put_step key (hand_at s.machine cpu)) refl refl)) core.modules
+  modules_op (Open key section index size) ops done ready free = rw (stay_now (Open key section index size) done refl) core.modules
+  modules_op (Close key) ops done ready free = rw (stay_now (Close key) done refl) core.modules
+  modules_op (Split key parts first) ops done ready free = rw (stay_now (Split key parts first) done refl) core.modules
+  modules_op (Swap one two) ops done ready free = rw (stay_now (Swap one two) done refl) core.modules
+  modules_op (Trim key bytes) ops done ready free = rw (stay_now (Trim key bytes) done refl) core.modules
   modules_op (Enter section) ops done ready free = let first : done ≡ 0 = omega (arith, ready.0.within) in goes_in_modules s core cpu below section ready.1.has_section (free first)
   modules_op (Leave section) ops done ready free = let first : done ≡ 0 = omega (arith, ready.0.within) in goes_out_modules s core cpu below section ready.1.has_section (free first)
   modules_op (Load section) ops done ready free = elim ready.1 [ ]

@@ -27,3 +27,4 @@ pub mod InsideTags
 pub mod Sweeping
 pub mod ManagerRelease
 pub mod ManagerTold
+pub mod SweepBounds

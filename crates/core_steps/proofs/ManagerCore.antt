@@ -1,5 +1,5 @@
 -- A core stays a core after the manager's step, and where an op is queued for the manager.
-use Rattle.std.proofs.Common.{◌≡◌, ℕ, ◌+◌, ◌==◌, List, [], ◌∷◌, ◌++◌, refl, ◌∙◌, subst, arith, Bool, true, false, not, cond, None, All}
+use Rattle.std.proofs.Common.{◌≡◌, ◌≢◌, ℕ, ◌==◌, List, [], ◌∷◌, ◌++◌, refl, ◌∙◌, subst, arith, Bool, true, false, not, cond, None, All}
 use Rattle.std.specs.List.{AllByRecursion}
 use Rattle.std.proofs.lemmas.List.Elements.{All-map, All-filter, All-push, All-weaker}
 use Rattle.tag_model.specs.declared.shape.Shape.{Shape}
@@ -67,14 +67,15 @@ keeps_released sections l ok fit = go l.sweep (list_released l ok)
 -- what holds of the manager after a step that isn't a load
 record ManagesOn (sections : List Section) (list : ListState) (m : Managing) : Type 0 where
   ops : AllByRecursion (IsManagerOp sections) m.ops
+  some_op : m.under_way ≡ true → m.ops ≢ []
   goes_on : m.under_way ≡ true → is_nothing (next_of list.sweep) ≡ false
 
 manages_on : (sections : List Section) (op : Op) (ops : List Op) (list : ListState) → AllByRecursion (IsManagerOp sections) (op ∷ ops) → ManagesOn sections list (managed_on op ops list)
 manages_on sections op ops list are = go (is_nothing (next_of list.sweep)) refl
   where
     go : (b : Bool) → is_nothing (next_of list.sweep) ≡ b → ManagesOn sections list (cond {A = Managing} b (record { ops = ops; under_way = false }) (record { ops = op ∷ ops; under_way = true }))
-    go true is = record { ops = are.1; goes_on = λ e. absurd (cc) }
-    go false is = record { ops = are; goes_on = λ e. is }
+    go true is = record { ops = are.1; some_op = λ e. absurd (cc); goes_on = λ e. absurd (cc) }
+    go false is = record { ops = are; some_op = λ e none. absurd (cc); goes_on = λ e. is }
 
 modules_with : (k : Shape) (sections : List Section) (ms : ModuleTable) (list : ListState) (m : Managing) → AreModules k sections ms → KeepsList sections ms.list list → ManagesOn sections list m → AreModules k sections (record ms { list = list; manager = m })
 modules_with k sections ms list m are keeps on = record {
@@ -86,6 +87,7 @@ modules_with k sections ms list m are keeps on = record {
   tags = omega (arith, keeps.first, keeps.tags, are.tags);
   entries = keeps.entries;
   ops = on.ops;
+  some_op = on.some_op;
   goes_on = on.goes_on;
 }
 
@@ -96,7 +98,7 @@ modules_after s core op ops n after are (Manages.loads section starts is none) =
     let of_new : EntryFits s.sections (new_entry section size l) = record { of_module = is; all_tags = refl } in
     modules_with s.shape s.sections s.modules (loaded section size l) (record { ops = ops; under_way = false }) core.modules
     (record { list = list_loaded l section size core.modules.list (core.sections.some_tag section is.has_section) none; first = refl; tags = refl; entries = All-push (EntryFits s.sections) l.area.entries (new_entry section size l) core.modules.entries of_new })
-    (record { ops = are.1; goes_on = λ e. absurd (cc) })
+    (record { ops = are.1; some_op = λ e. absurd (cc); goes_on = λ e. absurd (cc) })
 modules_after s core op ops n after are (Manages.marks_dead section e starts is unused) =
     modules_with s.shape s.sections s.modules _ _ core.modules (keeps_dead s.sections s.modules.list e.id core.modules.list core.modules.entries) (manages_on s.sections op ops _ are)
 modules_after s core op ops n after are (Manages.sweeps starts) =
@@ -128,6 +130,10 @@ pub all_push : (P : Op → Type 0) (ops : List Op) (op : Op) → AllByRecursion 
 all_push P [] op are is = (is, tt)
 all_push P (x ∷ ops) op are is = (are.0, all_push P ops op are.1 is)
 
+push_some : (ops : List Op) (op : Op) → ops ++ op ∷ [] ≢ []
+push_some [] op none = absurd (cc)
+push_some (x ∷ ops) op none = absurd (cc)
+
 pub queued_manager : (s : CoreState) (op : Op) → IsCore s → IsManagerOp s.sections op → IsCore (queued s actor.Manager op)
 queued_manager s op core is = record {
   shape = core.shape;
@@ -144,6 +150,7 @@ queued_manager s op core is = record {
     tags = core.modules.tags;
     entries = core.modules.entries;
     ops = all_push (IsManagerOp s.sections) s.modules.manager.ops op core.modules.ops is;
+    some_op = λ on. push_some s.modules.manager.ops op;
     goes_on = core.modules.goes_on;
   };
   safe = core.safe;

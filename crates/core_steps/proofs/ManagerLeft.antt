@@ -66,7 +66,7 @@ manager_left s core none =
     subst (λ all. manager_steps_left s.shape (managed s.shape s.sections s.words s.modules) < most_left s.shape s.modules.list all s.modules.manager.under_way) (sym first.is) (left_after s core first.op first.ops _ _ first.step)
 
 -- a sweep that goes on has a step left
-some_left : (s : CoreState) → IsCore s → (x : Sweep) → s.modules.list.sweep ≡ x → is_nothing (next_of x) ≡ false → 0 < sweep_steps s.shape s.modules.list
+pub some_left : (s : CoreState) → IsCore s → (x : Sweep) → s.modules.list.sweep ≡ x → is_nothing (next_of x) ≡ false → 0 < sweep_steps s.shape s.modules.list
 some_left s core sweep.None is on = absurd (cc)
 some_left s core (sweep.Reading left r) is on = omega (arith, scan_falls s.shape s.modules.list 0 left r core.modules.list (sweep_told s core).0 is)
 some_left s core (sweep.Done []) is on = absurd (cc)

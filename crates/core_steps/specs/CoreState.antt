@@ -426,7 +426,8 @@ pub record AreModules (k : Shape) (sections : List Section) (ms : ModuleTable) :
   pub tags : ms.list.area.first + ms.list.area.tags ≡ k.tags
   pub entries : All (EntryFits sections) ms.list.area.entries
   pub ops : AllByRecursion (IsManagerOp sections) ms.manager.ops
-  -- an op that is under way has something left to read or to release
+  -- an op that is under way is there, and has something left to read or to release
+  pub some_op : ms.manager.under_way ≡ true → ms.manager.ops ≢ []
   pub goes_on : ms.manager.under_way ≡ true → is_nothing (next_of ms.list.sweep) ≡ false
 
 -- there is the kernel's section, which fits, and each section has a tag

@@ -2,6 +2,7 @@
 //! between two steps is safe.
 #![tactic(auto)]
 
+pub mod bounds;
 mod inside;
 pub mod laws;
 pub mod machine;

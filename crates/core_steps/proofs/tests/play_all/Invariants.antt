@@ -1,7 +1,7 @@
-use Rattle.std.proofs.Common.{◌≡◌}
-use Rattle.core_steps.specs.declared.tests.TheConstants.{CPUS, TAGS, KERNEL_TAGS}
+use Rattle.std.proofs.Common.{◌≤◌}
+use Rattle.core_steps.specs.declared.tests.TheConstants.{TAGS}
 use Rattle.core_steps.proofs.tests.play_all.Given as goal
 
--- the core keeps its shape
-abbrev pub invariant-loop-play : goal.invariant-loop-play
-invariant-loop-play g l = (l.core.shape.cpus ≡ CPUS) × (l.core.shape.tags ≡ TAGS) × (l.core.kernel_len ≡ KERNEL_TAGS)
+-- the core has the tags that are looked at
+abbrev pub invariant-loop-place : goal.invariant-loop-place
+invariant-loop-place g l = TAGS ≤ l.core.shape.tags
