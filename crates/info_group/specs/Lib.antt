@@ -1,0 +1,4 @@
+pub mod Keys
+pub mod Grouping
+pub mod Tally
+pub mod Text
