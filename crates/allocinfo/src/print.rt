@@ -49,7 +49,8 @@ pub fn print_rows(sections: &Sections, rows: &[Row], out: &mut Vec<u8>) -> Resul
     Ok(())
 }
 
-fn write_bytes(bytes: u64, out: &mut Vec<u8>) -> Result<(), AllocError>
+/// Appends the column of the bytes: a signed number at the right of its places.
+pub fn write_bytes(bytes: u64, out: &mut Vec<u8>) -> Result<(), AllocError>
     ensures ok { OnOk result (out.new.items ≡ out.old.items ++ right BYTES_PLACES (signed_text bytes)) }
     ensures err { OnErr result (IsPrefix out.old.items out.new.items) }
 {
@@ -61,7 +62,8 @@ fn write_bytes(bytes: u64, out: &mut Vec<u8>) -> Result<(), AllocError>
     )
 }
 
-fn write_calls(calls: u64, out: &mut Vec<u8>) -> Result<(), AllocError>
+/// Appends the column of the calls.
+pub fn write_calls(calls: u64, out: &mut Vec<u8>) -> Result<(), AllocError>
     ensures ok { OnOk result (out.new.items ≡ out.old.items ++ right CALLS_PLACES (decimal calls)) }
     ensures err { OnErr result (IsPrefix out.old.items out.new.items) }
 {

@@ -1,0 +1,5 @@
+pub mod Keys
+pub mod Grouping
+pub mod Tally
+pub mod Laws
+pub mod Text
