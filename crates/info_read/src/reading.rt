@@ -81,6 +81,7 @@ pub fn read_info(alloc: Global, bytes: &[u8]) -> Result<Vec<InfoRow>, InfoError>
     requires { length bytes.now ≤ 4194304 }
     ensures rows { FindsRows bytes.now result }
     ensures fault { FindsFault bytes.now result }
+    ensures reads { Reads result (rows_of bytes.now) }
 {
     rows_of(alloc, bytes)
 }

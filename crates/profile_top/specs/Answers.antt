@@ -12,6 +12,12 @@ use Rattle.trace.specs.Codes.{code_text}
 use Rattle.trace.specs.StepReading.{steps_of}
 use Rattle.trace.specs.TraceReading.{trace_of}
 use Rattle.round_check.specs.Walk.{rounds_of}
+use Rattle.info_read.specs.declared.row.InfoRow.{InfoRow}
+use Rattle.info_read.specs.Reading.{rows_of}
+use Rattle.info_group.specs.declared.group.Group.{Group}
+use Rattle.info_group.specs.Grouping.{groups_of}
+use Rattle.info_group.specs.Keys.{file_key, module_key}
+use Rattle.info_group.specs.Text.{groups_text}
 use Rattle.profile_top.specs.Schedule.{Played, schedule_of}
 use Rattle.profile_top.specs.declared.answer.Answer.{Answer}
 use Rattle.profile_top.specs.declared.answer.Mode.{Mode}
@@ -73,10 +79,29 @@ abbrev pub trace_checked : List ℕ → Result Trace (ℕ × Code) → Written
 trace_checked input (Ok trace) = rounds_checked input trace (rounds_of trace)
 trace_checked input (Err why) = refused [] why
 
+-- ---- `files` and `modules`
+
+-- `line N: info`
+unfoldable pub info_refusal_text : ℕ → List ℕ
+info_refusal_text line = codes "line " ++ decimal line ++ codes ": info\n"
+
+abbrev pub info_refused : ℕ → Written
+info_refused line = record { status = 1; text = info_refusal_text line }
+
+abbrev pub listed : List Group → Written
+listed groups = record { status = 0; text = groups_text groups }
+
+-- the groups of the rows by a key, or the first line that isn't of the form of allocinfo
+abbrev pub grouped : (InfoRow → List ℕ) → Result (List InfoRow) ℕ → Written
+grouped key (Ok rows) = listed (groups_of key rows)
+grouped key (Err line) = info_refused line
+
 -- ---- all
 
 abbrev pub answer_in : Mode → List ℕ → Written
 answer_in mode.Step input = step_read (steps_of input)
+answer_in mode.Files input = grouped file_key (rows_of input)
+answer_in mode.Modules input = grouped module_key (rows_of input)
 answer_in mode.Check input = if is_schedule input then steps_checked input (steps_of input) else trace_checked input (trace_of input)
 
 -- the most bytes of an input
@@ -89,7 +114,12 @@ answer_of mode input = if nat_lt input_limit (length input) then too_long else a
 
 -- the one word of the command line
 abbrev pub mode_word : List ℕ → Option Mode
-mode_word word = if bytes_eq word (codes "step") then Some mode.Step else (if bytes_eq word (codes "check") then Some mode.Check else None)
+mode_word word =
+    if bytes_eq word (codes "step") then Some mode.Step
+    else (if bytes_eq word (codes "check") then Some mode.Check
+    else (if bytes_eq word (codes "files") then Some mode.Files
+    else (if bytes_eq word (codes "modules") then Some mode.Modules
+    else None)))
 
 abbrev pub mode_of : List (List ℕ) → Option Mode
 mode_of [] = None

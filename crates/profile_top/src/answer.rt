@@ -5,10 +5,14 @@ ghost use Rattle.tag_section.specs.Section.{names_of};
 ghost use Rattle.text_form.specs.Lines.{lines_of};
 ghost use Rattle.trace.specs.StepReading.{steps_of};
 ghost use Rattle.trace.specs.TraceReading.{trace_of};
-ghost use Rattle.profile_top.specs.Answers.{Gives, refusal_text, refused, ok_text, all_well, step_read, is_schedule, steps_checked, trace_checked, answer_in};
+ghost use Rattle.profile_top.specs.Answers.{Gives, refusal_text, refused, ok_text, all_well, step_read, is_schedule, steps_checked, trace_checked, info_refusal_text, info_refused, listed, grouped, answer_in};
+ghost use Rattle.info_read.specs.Reading.{rows_of};
+ghost use Rattle.info_group.specs.Keys.{file_key, module_key};
 
 use crate::number::write_number;
 use crate::schedule::run_schedule;
+use info_group::{Group, by_file, by_module, print_groups};
+use info_read::{InfoError, read_info};
 use round_check::check_rounds;
 use std::alloc::{AllocError, Global};
 use tag_section::Sections;
@@ -30,6 +34,8 @@ pub(crate) struct Answer {
 pub(crate) enum Mode {
     Step,
     Check,
+    Files,
+    Modules,
 }
 
 fn write_refusal(
@@ -142,6 +148,63 @@ fn check_trace(alloc: Global, input: &[u8]) -> Result<Answer, AllocError>
     }
 }
 
+// ---- `files` and `modules`
+
+fn write_info_refusal(line: u32, out: &mut Vec<u8>) -> Result<(), AllocError>
+    ensures { OnOk result (out.new.items ≡ out.old.items ++ info_refusal_text line) }
+{
+    out.extend_from_slice(b"line ")?;
+    write_number(u64::from(line), out)?;
+    out.extend_from_slice(b": info\n")
+}
+
+/// The line isn't of the form of allocinfo.
+fn info_refusal(alloc: Global, line: u32) -> Result<Answer, AllocError>
+    ensures { IfOk result (λ answer. Gives answer (info_refused line)) }
+{
+    let mut text = Vec::new(alloc);
+    write_info_refusal(line, &mut text)?;
+    Ok(Answer { status: 1, text })
+}
+
+fn groups_answer(alloc: Global, groups: &[Group]) -> Result<Answer, AllocError>
+    ensures { IfOk result (λ answer. Gives answer (listed groups.now)) }
+{
+    let mut text = Vec::new(alloc);
+    print_groups(groups, &mut text)?;
+    Ok(Answer { status: 0, text })
+}
+
+/// The groups of allocinfo by file.
+fn files_answer(alloc: Global, input: &[u8]) -> Result<Answer, AllocError>
+    requires { length input.now ≤ 4194304 }
+    ensures { IfOk result (λ answer. Gives answer (grouped file_key (rows_of input.now))) }
+{
+    match read_info(alloc, input) {
+        Ok(rows) => {
+            let groups = by_file(alloc, &rows)?;
+            groups_answer(alloc, &groups)
+        }
+        Err(InfoError::Refused { line }) => info_refusal(alloc, line),
+        Err(InfoError::Memory(error)) => Err(error),
+    }
+}
+
+/// The groups of allocinfo by module.
+fn modules_answer(alloc: Global, input: &[u8]) -> Result<Answer, AllocError>
+    requires { length input.now ≤ 4194304 }
+    ensures { IfOk result (λ answer. Gives answer (grouped module_key (rows_of input.now))) }
+{
+    match read_info(alloc, input) {
+        Ok(rows) => {
+            let groups = by_module(alloc, &rows)?;
+            groups_answer(alloc, &groups)
+        }
+        Err(InfoError::Refused { line }) => info_refusal(alloc, line),
+        Err(InfoError::Memory(error)) => Err(error),
+    }
+}
+
 /// The answer to an input that is not too long.
 pub(crate) fn answer_input(alloc: Global, mode: Mode, input: &[u8]) -> Result<Answer, AllocError>
     requires { length input.now ≤ 4194304 }
@@ -151,5 +214,7 @@ pub(crate) fn answer_input(alloc: Global, mode: Mode, input: &[u8]) -> Result<An
         Mode::Step => step_answer(alloc, input),
         Mode::Check if is_schedule(input) => check_steps(alloc, input),
         Mode::Check => check_trace(alloc, input),
+        Mode::Files => files_answer(alloc, input),
+        Mode::Modules => modules_answer(alloc, input),
     }
 }

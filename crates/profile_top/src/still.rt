@@ -18,6 +18,8 @@ fn mode_word(word: &[u8]) -> Option<Mode>
     match word {
         b"step" => Some(Mode::Step),
         b"check" => Some(Mode::Check),
+        b"files" => Some(Mode::Files),
+        b"modules" => Some(Mode::Modules),
         _ => None,
     }
 }
@@ -44,7 +46,7 @@ fn finish<K: Sink>(sink: &mut K, status: u8, text: &[u8]) -> u8
     }
 }
 
-/// Serves `step` and `check`: reads the source, and writes the answer to the sink. The status is 0 where the input is
+/// Serves `step`, `check`, `files` and `modules`: reads the source, and writes the answer to the sink. The status is 0 where the input is
 /// accepted, 1 where it is refused, 2 where the words are not taken, 3 where memory ran out, 4 where reading failed and
 /// 5 where writing failed.
 pub fn memprof_still<S: Source, K: Sink>(
