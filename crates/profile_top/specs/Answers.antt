@@ -113,13 +113,11 @@ abbrev pub answer_of : Mode → List ℕ → Written
 answer_of mode input = if nat_lt input_limit (length input) then too_long else answer_in mode input
 
 -- the one word of the command line
+abbrev pub info_word : List ℕ → Option Mode
+info_word word = if bytes_eq word (codes "files") then Some mode.Files else (if bytes_eq word (codes "modules") then Some mode.Modules else None)
+
 abbrev pub mode_word : List ℕ → Option Mode
-mode_word word =
-    if bytes_eq word (codes "step") then Some mode.Step
-    else (if bytes_eq word (codes "check") then Some mode.Check
-    else (if bytes_eq word (codes "files") then Some mode.Files
-    else (if bytes_eq word (codes "modules") then Some mode.Modules
-    else None)))
+mode_word word = if bytes_eq word (codes "step") then Some mode.Step else (if bytes_eq word (codes "check") then Some mode.Check else info_word word)
 
 abbrev pub mode_of : List (List ℕ) → Option Mode
 mode_of [] = None

@@ -6,11 +6,22 @@ ghost use Rattle.std.specs.Io.KnownBytes.{Appends};
 ghost use Rattle.outside.specs.Faults.{Rose};
 ghost use Rattle.outside.specs.Bytes.{AppendsPrefix};
 ghost use Rattle.profile_top.specs.declared.answer.Mode.{Mode};
-ghost use Rattle.profile_top.specs.Answers.{mode_word, mode_of, answer_of, Served, ServedInPart};
+ghost use Rattle.profile_top.specs.Answers.{info_word, mode_word, mode_of, answer_of, Served, ServedInPart};
 
 use crate::answer::{INPUT_LIMIT, Mode, answer_input};
 use outside::{ReadError, Sink, Source, read_all, write_all};
 use std::alloc::Global;
+
+/// The words that read allocinfo.
+fn info_word(word: &[u8]) -> Option<Mode>
+    ensures { result ≡ info_word word.now }
+{
+    match word {
+        b"files" => Some(Mode::Files),
+        b"modules" => Some(Mode::Modules),
+        _ => None,
+    }
+}
 
 fn mode_word(word: &[u8]) -> Option<Mode>
     ensures { result ≡ mode_word word.now }
@@ -18,9 +29,7 @@ fn mode_word(word: &[u8]) -> Option<Mode>
     match word {
         b"step" => Some(Mode::Step),
         b"check" => Some(Mode::Check),
-        b"files" => Some(Mode::Files),
-        b"modules" => Some(Mode::Modules),
-        _ => None,
+        _ => info_word(word),
     }
 }
 
