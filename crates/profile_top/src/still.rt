@@ -16,11 +16,13 @@ use std::alloc::Global;
 fn info_word(word: &[u8]) -> Option<Mode>
     ensures { result ≡ info_word word.now }
 {
-    match word {
-        b"files" => Some(Mode::Files),
-        b"modules" => Some(Mode::Modules),
-        _ => None,
+    if word == b"files".as_slice() {
+        return Some(Mode::Files);
     }
+    if word == b"modules".as_slice() {
+        return Some(Mode::Modules);
+    }
+    None
 }
 
 fn mode_word(word: &[u8]) -> Option<Mode>
