@@ -54,7 +54,12 @@ fn write_refusal(
 }
 
 /// The line is refused.
-pub(crate) fn refusal(alloc: Global, sections: &Sections, line: u32, code: Code) -> Result<Answer, AllocError>
+pub(crate) fn refusal(
+    alloc: Global,
+    sections: &Sections,
+    line: u32,
+    code: Code,
+) -> Result<Answer, AllocError>
     ensures { IfOk result (λ answer. Gives answer (refused (names_of sections.now) (line, code))) }
 {
     let mut text = Vec::new(alloc);

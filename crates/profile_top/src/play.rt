@@ -47,12 +47,7 @@ fn play_step(core: &mut Core, actor: Actor, out: &mut Vec<u8>) -> Result<(), Act
 }
 
 /// Takes so many steps, up to the first that is refused.
-fn play_steps(
-    core: &mut Core,
-    actor: Actor,
-    count: u32,
-    out: &mut Vec<u8>,
-) -> Result<(), ActError>
+fn play_steps(core: &mut Core, actor: Actor, count: u32, out: &mut Vec<u8>) -> Result<(), ActError>
     ensures meaning { (p : Played) → Shows (own_setting core.old) core.old out.old.items p → Follows (own_setting core.old) result core.new out.new.items (steps_taken (own_setting core.old) actor count p) }
     ensures sizes { SameSizes core.old core.new }
 {
@@ -120,12 +115,7 @@ fn tag_number(core: &Core, section: u32, index: u32) -> Option<u32>
 }
 
 /// Writes each CPU's words of the tag.
-fn play_words(
-    core: &Core,
-    section: u32,
-    index: u32,
-    out: &mut Vec<u8>,
-) -> Result<(), ActError>
+fn play_words(core: &Core, section: u32, index: u32, out: &mut Vec<u8>) -> Result<(), ActError>
     requires kernel { length (section_at core.now.sections 0).tags ≤ core.now.shape.tags }
     requires section { section < length core.now.sections }
     requires index { index < length (section_at core.now.sections section).tags }
@@ -141,12 +131,7 @@ fn play_words(
 }
 
 /// Does what a line asks for.
-fn play_act(
-    alloc: Global,
-    core: &mut Core,
-    act: Act,
-    out: &mut Vec<u8>,
-) -> Result<(), ActError>
+fn play_act(alloc: Global, core: &mut Core, act: Act, out: &mut Vec<u8>) -> Result<(), ActError>
     requires kernel { 0 < length core.old.sections }
     requires fits { length (section_at core.old.sections 0).tags ≤ core.old.shape.tags }
     requires act { IsAct core.old act }
