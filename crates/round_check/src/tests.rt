@@ -4,12 +4,13 @@ use super::*;
 use std::alloc::Global;
 use trace::{Code, TextError, read_trace};
 
+// A check that refuses nothing shows as line 0.
 fn refusal(alloc: Global, text: &[u8]) -> Option<(u32, Code)>
     requires { length text.now ≤ 4194304 }
 {
     match read_trace(alloc, text) {
         Ok(trace) => match check_rounds(alloc, &trace) {
-            Ok(()) => Some((0, Code::NotBuilt)),
+            Ok(()) => Some((0, Code::Lines)),
             Err(TextError::Refused { line, code }) => Some((line, code)),
             Err(_) => None,
         },
@@ -68,5 +69,5 @@ fn modules(rt: HostRuntime) {
     let text =
         b"memprof-trace 1.0\nkernel\ntag mm/slub.c 1 slab\nmodule ext\ntag m/x.c 5 fx\nload ext\nround\n\
         on 0 enter ext\non 1 page 7 0\nround\non 0 leave ext\non 2 free 7\nround\non 3 unload ext\nprint\n";
-    assert_eq!(rt; refusal(alloc, text), Some((0, Code::NotBuilt)));
+    assert_eq!(rt; refusal(alloc, text), Some((0, Code::Lines)));
 }

@@ -24,7 +24,7 @@ use Rattle.trace.specs.Forms.{line_form, tail_form, is_skipped, first_line}
 use Rattle.trace.specs.Head.{cpus_of, section_form}
 use Rattle.trace.specs.Judging.{at, need}
 use Rattle.trace.specs.Words.{is_word}
-use Rattle.trace.specs.StepForm.{IsStepOp, IsStepAct, is_printing, prints_of, AreSteps, IsKernelOp, IsKernelAct}
+use Rattle.trace.specs.StepForm.{IsStepOp, IsStepAct, is_printing, prints_of, AreSteps}
 use Rattle.trace.specs.StepReading.{empty_reading, with_head, with_act, with_print, in_body, keyword_line, step_line, step_lines, steps_from, steps_of}
 use Rattle.trace.specs.StepWords.{step_keyword}
 use Rattle.trace.proofs.Judged.{bound, given, passed, skipped, checked, checks, numbered}
@@ -234,29 +234,3 @@ steps_of_formed text s read =
     skipped AreSteps (at 1 (need (is_word (codes "memprof-steps 1.0") header) code.Header)) _
     (bound (λ r. AreSteps (steps_from r)) AreSteps _ (λ reading. Ok (steps_from reading)) (lines_in 2 (drop 1 (lines_of text)) (tail_of text) empty_reading IsReading-empty)
     (λ reading formed. formed))))
-
-kernel_op : (sections : List Section) (o : StepOp) → length sections ≡ 1 → IsStepOp sections o → IsKernelOp o
-kernel_op sections (op.Open key section index size) one is = omega (arith, is.1.0)
-kernel_op sections (op.Close key) one is = tt
-kernel_op sections (op.Split key parts first) one is = tt
-kernel_op sections (op.Swap a b) one is = tt
-kernel_op sections (op.Trim key bytes) one is = tt
-kernel_op sections (op.Enter section) one is = omega (arith, is.0, is.1)
-kernel_op sections (op.Leave section) one is = omega (arith, is.0, is.1)
-kernel_op sections (op.Load section) one is = omega (arith, is.0, is.1)
-kernel_op sections (op.Unload section) one is = omega (arith, is.0, is.1)
-kernel_op sections op.Clean one is = tt
-
--- where the kernel's section stands alone, a body line names no other
-pub kernel_act : (cpus : ℕ) (sections : List Section) (a : StepAct) → length sections ≡ 1 → IsStepAct cpus sections a → IsKernelAct a
-kernel_act cpus sections (act.Do who what) one is = kernel_op sections what one is.2
-kernel_act cpus sections (act.Go who count) one is = tt
-kernel_act cpus sections act.Print one is = tt
-kernel_act cpus sections (act.Words section index) one is = omega (arith, is.0)
-
-kernel_acts : (cpus : ℕ) (sections : List Section) (body : List StepLine) → length sections ≡ 1 → AllByRecursion (λ line. IsStepAct cpus sections line.act) body → AllByRecursion (λ line. IsKernelAct line.act) body
-kernel_acts cpus sections [] one all = tt
-kernel_acts cpus sections (line ∷ lines) one all = (kernel_act cpus sections line.act one all.0, kernel_acts cpus sections lines one all.1)
-
-pub kernel_alone : (s : Steps) → AreSteps s → length s.sections ≡ 1 → AllByRecursion (λ line. IsKernelAct line.act) s.body
-kernel_alone s is one = kernel_acts s.cpus s.sections s.body one is.acts

@@ -55,7 +55,6 @@ code_word (code.NotInside n) = codes "not-inside"
 code_word (code.Hooked n) = codes "hooked"
 code_word code.Deep = codes "deep"
 code_word code.NoHook = codes "no-hook"
-code_word code.NotBuilt = codes "not-built"
 
 -- a key or a count, or a module by its section
 abbrev pub argument_of : Code → Argument
@@ -107,7 +106,6 @@ argument_of (code.NotInside n) = Module n
 argument_of (code.Hooked n) = Module n
 argument_of code.Deep = Nothing
 argument_of code.NoHook = Nothing
-argument_of code.NotBuilt = Nothing
 
 -- a number in decimal, or the name of the module; the names are those of all sections, and a module that is none of them has none
 abbrev pub argument_text : List (List ℕ) → Argument → List ℕ

@@ -96,18 +96,3 @@ pub record AreSteps (s : Steps) : Type 0 where
   pub acts : AllByRecursion (λ line. IsStepAct s.cpus s.sections line.act) s.body
   pub few_lines : length s.body ≤ 131072
   pub few_prints : prints_of s.body ≤ 64
-
--- an op on the kernel's tags alone
-abbrev pub IsKernelOp : StepOp → Type 0
-IsKernelOp (op.Open key section index size) = section ≡ 0
-IsKernelOp (op.Enter section) = ⊥
-IsKernelOp (op.Leave section) = ⊥
-IsKernelOp (op.Load section) = ⊥
-IsKernelOp (op.Unload section) = ⊥
-IsKernelOp _ = ⊤
-
--- what a body line may ask for where no module is declared
-abbrev pub IsKernelAct : StepAct → Type 0
-IsKernelAct (act.Do actor op) = IsKernelOp op
-IsKernelAct (act.Words section index) = section ≡ 0
-IsKernelAct _ = ⊤

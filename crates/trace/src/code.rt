@@ -104,8 +104,6 @@ pub enum Code {
     Deep,
     /// No hook is out.
     NoHook,
-    /// The line is of the language, and what it asks for is not built yet.
-    NotBuilt,
 }
 
 /// Why an input gave nothing.
@@ -223,7 +221,6 @@ impl Code {
             Code::Hooked(_) => b"hooked",
             Code::Deep => b"deep",
             Code::NoHook => b"no-hook",
-            Code::NotBuilt => b"not-built",
         }
     }
 
