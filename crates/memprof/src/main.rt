@@ -1,6 +1,8 @@
 //! The program `memprof`: memory-allocation profiles by code tag.
 #![tactic(auto)]
 
+ghost use Rattle.std.specs.Prelude.{◌≡◌, ◌≤◌, ◌⊎◌, ◌↔◌, IsSome, IfErr};
+
 use outside::{StdSink, StdSource};
 use profile_top::memprof_still;
 use std::process::ExitCode;
@@ -13,7 +15,9 @@ const NO_MEMORY: u8 = 3;
 const USAGE: u8 = 2;
 
 /// The words of the command line, without the program's name. A word that is not text is none that is taken.
-fn words(rt: &HostRuntime) -> Result<Vec<String>, u8> {
+fn words(rt: &HostRuntime) -> Result<Vec<String>, u8>
+    ensures status { IfErr result (λ status. (status ≡ 2) ⊎ (status ≡ 3)) }
+{
     let mut all = match env::args(rt) {
         Ok(all) => all,
         Err(error) if error.kind() == io::ErrorKind::InvalidData => return Err(USAGE),
@@ -30,7 +34,9 @@ fn words(rt: &HostRuntime) -> Result<Vec<String>, u8> {
 }
 
 /// What is said on standard error.
-fn complaint(status: u8) -> Option<&'static str> {
+fn complaint(status: u8) -> Option<&'static str>
+    ensures said { IsSome result ↔ ((2 ≤ status) × (status ≤ 5)) }
+{
     match status {
         2 => Some("memprof: usage"),
         3 => Some("memprof: out of memory"),
