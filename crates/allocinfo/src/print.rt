@@ -1,6 +1,7 @@
 ghost use Rattle.std.specs.Prelude.{ℕ, ◌≡◌, ◌+◌, ◌++◌, codes, decimal, OnOk, OnErr};
 ghost use Rattle.codetag.specs.Prefix.{IsPrefix};
 ghost use Rattle.allocinfo.specs.Text.{header_text, right, signed_text, place_text, row_text, rows_text, IsRow, AreRows};
+ghost use Rattle.allocinfo.specs.declared.print.TheConstants.{BYTES_PLACES, CALLS_PLACES};
 
 use crate::rows::Row;
 use itoa::Buffer;
@@ -12,6 +13,12 @@ pub const BYTES_PLACES: usize = 12;
 
 /// The places of a row's calls.
 pub const CALLS_PLACES: usize = 8;
+
+/// The places, as numbers.
+pub fn places_are_these()
+    ensures bytes { BYTES_PLACES ≡ 12 }
+    ensures calls { CALLS_PLACES ≡ 8 }
+{}
 
 /// Appends the two lines before the rows.
 pub fn write_header(out: &mut Vec<u8>) -> Result<(), AllocError>

@@ -26,6 +26,12 @@ use tag_model::state::{Kind, Reader, Stop};
 /// No id is above this.
 pub const LAST_ID: u32 = 4_294_967_295;
 
+/// The last id, and how many entries there are at most, as numbers.
+pub fn limits_are_these()
+    ensures ids { LAST_ID ≡ 4294967295 }
+    ensures entries { BOOK_LIMIT ≡ 64 }
+{}
+
 /// What a sweep does next.
 #[derive(Clone, Copy, Debug, PartialEq, Eq)]
 pub enum Next {

@@ -1,5 +1,8 @@
 //! What actors do, and what a step of theirs answers.
 
+ghost use Rattle.std.specs.Prelude.{◌≡◌};
+ghost use Rattle.core_steps.specs.declared.op.TheConstants.{KEY_END, MAX_QUEUED, MAX_PARTS};
+
 use std::alloc::AllocError;
 use tag_model::state::Kind;
 
@@ -11,6 +14,13 @@ pub const MAX_QUEUED: usize = 65_536;
 
 /// The most parts of a split.
 pub const MAX_PARTS: u32 = 1_024;
+
+/// The limits, as numbers.
+pub fn limits_are_these()
+    ensures keys { KEY_END ≡ 65536 }
+    ensures queued { MAX_QUEUED ≡ 65536 }
+    ensures parts { MAX_PARTS ≡ 1024 }
+{}
 
 /// Who takes a step.
 #[derive(Clone, Copy, Debug, PartialEq, Eq)]
