@@ -19,6 +19,17 @@ const UNEVEN: &[u8] = b"memprof-steps 1.0\nkernel\ntag mm/a.c 10 fa\n\
 const SHARED: &[u8] = b"memprof-trace 1.0\nkernel\ntag mm/slub.c 1 slab\n\
     round\non 0 page 1 0\non 1 free 1\n";
 
+const MODULES: &[u8] = b"memprof-steps 1.0\ncpus 2\nkernel\ntag mm/a.c 10 fa\n\
+    module ext\ntag m/x.c 5 fx\ndo m load ext\ngo m 1\ndo 0 enter ext\ndo 0 open 1 ext:0 64\n\
+    do 0 leave ext\ngo 0 5\ndo 1 close 1\ngo 1 2\ndo m unload ext\ngo m all\n\
+    go 1 1\ndo m clean\ngo m all\n";
+
+const UNLOADED: &[u8] = b"memprof-steps 1.0\nkernel\ntag mm/a.c 10 fa\nmodule ext\n\
+    tag m/x.c 5 fx\nwords ext:0\n";
+
+const INFO: &[u8] =
+    b"allocinfo - version: 1.0\n#     <size>  <calls> <tag info>\n        4096        1 mm/slub.c:1 func:slab \n        -128        2 m/x.c:10 [ext] func:fa\n           0        0 m/x.c:20 [ext:kept] func:fb \n";
+
 #[derive(Drop)]
 struct Outcome {
     status: u8,
@@ -93,8 +104,40 @@ fn inputs(rt: HostRuntime) -> Result<(), Fail> {
 }
 
 #[test]
+fn modules_and_groups(rt: HostRuntime) -> Result<(), Fail> {
+    let rows: [(&str, &[u8], u8, &[u8]); 6] = [
+        (
+            "step",
+            MODULES,
+            0,
+            b"unload ext: kept m/x.c:5 calls 1\nclean ext: released\n",
+        ),
+        ("step", UNLOADED, 1, b"line 6: not-loaded ext\n"),
+        (
+            "files",
+            INFO,
+            0,
+            b"        -128        2 m/x.c\n        4096        1 mm/slub.c\n",
+        ),
+        (
+            "modules",
+            INFO,
+            0,
+            b"        -128        2 ext\n           0        0 ext:kept\n        4096        1 kernel\n",
+        ),
+        ("files", b"", 1, b"line 1: info\n"),
+        ("modules", ONE, 1, b"line 1: info\n"),
+    ];
+    for (word, input, status, text) in rows {
+        let seen = serve(rt.alloc(), &[word], input, &[], &[])?;
+        assert!(rt; is_outcome(&seen, status, text), "{word}");
+    }
+    Ok(())
+}
+
+#[test]
 fn words(rt: HostRuntime) -> Result<(), Fail> {
-    let lines: [&[&str]; 5] = [&[], &["step", "x"], &["run"], &["Step"], &[""]];
+    let lines: [&[&str]; 5] = [&[], &["files", "3"], &["run"], &["Step"], &[""]];
     for words in lines {
         let seen = serve(rt.alloc(), words, ONE, &[0], &[0])?;
         assert!(rt; is_outcome(&seen, 2, b""));
