@@ -17,7 +17,7 @@ use Rattle.tag_model.specs.declared.state.Tag.{Tag}
 use Rattle.tag_model.specs.Laws.{are_dead}
 use Rattle.tag_model.specs.Reference.{hand_counts_of, hand_fits}
 use Rattle.tag_model.specs.StepRules.{Becomes, Releases}
-use Rattle.tag_model.specs.WordState.{counted, counted_of, in_range, part_fits}
+use Rattle.tag_model.specs.WordState.{counted_of, in_range, part_fits}
 use Rattle.tag_model.proofs.CpuFits.{cpu_fits_means, hand_fits_means, hand_is_counted, same_tag_refl}
 use Rattle.tag_model.proofs.Found.{count_at}
 use Rattle.tag_model.proofs.Lists.{in_range_from}

@@ -1,11 +1,9 @@
 -- What a step of the manager tells is there.
-use Rattle.std.proofs.Common.{◌≡◌, ℕ, ◌+◌, ◌-◌, ◌<◌, ◌==◌, ◌&&◌, nat_lt, not, cond, List, [], ◌∷◌, Option, Some, None, refl, sym, subst, arith, Bool, true, false}
+use Rattle.std.proofs.Common.{◌≡◌, ℕ, ◌+◌, ◌-◌, ◌<◌, ◌==◌, ◌&&◌, nat_lt, not, cond, List, [], ◌∷◌, Option, None, refl, sym, subst, arith, Bool, true, false}
 use Rattle.std.specs.Prelude.{slice_get}
 use Rattle.std.specs.List.{list_any}
-use Rattle.tag_model.specs.declared.shape.Shape.{Shape}
 use Rattle.tag_model.specs.declared.state.Reader.{Reader}
 use Rattle.tag_model.specs.declared.state.Record.{Record}
-use Rattle.tag_model.specs.declared.state.Stop.{Stop}
 use Rattle.tag_model.specs.declared.state.Sweep.{Sweep}
 use Rattle.tag_model.specs.declared.state.Sweep.TheVariants as sweep
 use Rattle.tag_model.specs.Laws.{sweep_fits}
@@ -14,13 +12,10 @@ use Rattle.tag_model.specs.WordState.{in_range}
 use Rattle.tag_model.proofs.Found.{any_at}
 use Rattle.tag_model.proofs.Lists.{in_range_means}
 use Rattle.tag_model.proofs.ScanRow.{reading_fits}
-use Rattle.tag_section.specs.Section.{Section}
 use Rattle.module_area.specs.declared.entry.Entry.{Entry}
-use Rattle.module_area.specs.Entries.{entry_of}
-use Rattle.core_list.specs.ListState.{ListState, records_of, next_of, found_at, section_in, start_in, sum_read}
+use Rattle.core_list.specs.ListState.{records_of, next_of, found_at, section_in, start_in, sum_read}
 use Rattle.core_list.proofs.Split.{TheEntry, the_entry, entry_holds}
 use Rattle.core_steps.specs.declared.op.Cause.{Cause}
-use Rattle.core_steps.specs.declared.op.Event.{Event}
 use Rattle.core_steps.specs.declared.op.Event.TheVariants.{Stepped}
 use Rattle.core_steps.specs.Modules.{section_len, manager_refusal, manager_event, event_of_sweep, kept_by, cause_of, word_read}
 use Rattle.core_steps.specs.CoreState.{CoreState, IsCore, IsModule, EntryFits}

@@ -1,11 +1,9 @@
 -- The core that a machine and its moves give steps as the machine and its moves do.
-use Rattle.std.proofs.Common.{◌≡◌, ◌≢◌, ℕ, zero, suc, ◌+◌, ◌-◌, ◌*◌, ◌/◌, ◌%◌, ◌<◌, ◌≤◌, List, [], ◌∷◌, ◌++◌, length, get_or, set, map, replicate, refl, sym, ap, ◌∙◌, subst, arith, Option, Some, None, append-nil, sum_by, Result, Ok, Err, OnOk, MatchOption, inl, inr}
+use Rattle.std.proofs.Common.{◌≡◌, ℕ, ◌+◌, ◌*◌, ◌/◌, ◌<◌, List, [], ◌∷◌, ◌++◌, length, get_or, set, replicate, refl, sym, ap, ◌∙◌, subst, arith, Option, Some, None, append-nil, Result, Ok, Err, OnOk, inl, inr}
 use Rattle.std.proofs.lemmas.List.{set-get_or, same_lists, length-replicate, get_or-replicate}
 use Rattle.std.proofs.lemmas.List.FromFn.{length-map-range_with_len, get_or-map-range_with_len}
-use Rattle.std.specs.List.{range_with_len}
 use Rattle.tag_model.specs.declared.shape.Shape.{Shape}
 use Rattle.tag_model.specs.declared.state.Hand.{Hand}
-use Rattle.tag_model.specs.declared.state.Held.{Held}
 use Rattle.tag_model.specs.declared.state.Kind.{Kind}
 use Rattle.tag_model.specs.declared.state.Kind.TheVariants.{Bytes, Calls}
 use Rattle.tag_model.specs.Wrap.{wrap, wrap_minus}
@@ -16,7 +14,7 @@ use Rattle.core_steps.specs.declared.op.Op.{Op}
 use Rattle.core_steps.specs.declared.op.Actor.TheVariants as actor
 use Rattle.core_steps.specs.declared.step.WordStep.{WordStep}
 use Rattle.core_steps.specs.declared.step.WordStep.TheVariants.{BeginAllocation, AddBytes, AddCall, SubtractBytes, SubtractCall, Write, GoIn, GoOut, Rest}
-use Rattle.core_steps.specs.Machine.{Machine, Waiting, hand_at, waiting_at, step_of, words_after, moves_of, moves_in, moves_of_step, after_step, refusal_in, CanTake}
+use Rattle.core_steps.specs.Machine.{Machine, hand_at, waiting_at, step_of, words_after, moves_of, moves_in, moves_of_step, after_step, refusal_in, CanTake}
 use Rattle.core_steps.specs.CoreState.{CoreState, IsCore, words_at, words_stepped, modules_after_step, refused, stepped, fresh, fresh_machine, fresh_modules, CanStep}
 use Rattle.core_steps.specs.Modules.{ModuleTable, inside_at, scene_at}
 use Rattle.tag_section.specs.Section.{Section}

@@ -1,5 +1,5 @@
 -- What a release finds: the module is dead, and no place and no hand names it, or a tag of its range.
-use Rattle.std.specs.Prelude.{◌≡◌, ◌≢◌, ℕ, ◌+◌, ◌<◌, ◌≤◌, ◌⊎◌, Some, None, IsSomeAnd}
+use Rattle.std.specs.Prelude.{◌≡◌, ℕ, ◌⊎◌, Some}
 use Rattle.tag_model.specs.declared.state.Tag.{Tag}
 use Rattle.tag_model.specs.declared.state.Hand.{Hand}
 use Rattle.tag_model.specs.declared.state.Held.TheVariants as held
@@ -8,7 +8,6 @@ use Rattle.module_area.specs.declared.entry.State.TheVariants.{Dead}
 use Rattle.module_area.specs.Entries.{Covers, entry_of}
 use Rattle.core_list.specs.declared.list.Next.TheVariants.{Release}
 use Rattle.core_list.specs.ListState.{next_of}
-use Rattle.core_steps.specs.declared.op.Cause.{Cause}
 use Rattle.core_steps.specs.declared.op.Event.{Event}
 use Rattle.core_steps.specs.declared.op.Event.TheVariants.{Stepped, Released, Kept}
 use Rattle.core_steps.specs.Machine.{held_at, hand_at}

@@ -1,5 +1,5 @@
 -- How many steps an actor's ops have left.
-use Rattle.std.specs.Prelude.{ℕ, ◌+◌, ◌-◌, ◌*◌, Bool, true, false, if◌then◌else◌, List, [], ◌∷◌, length, sum_by}
+use Rattle.std.specs.Prelude.{ℕ, ◌+◌, ◌-◌, ◌*◌, Bool, if◌then◌else◌, List, [], ◌∷◌, length, sum_by}
 use Rattle.tag_model.specs.declared.shape.Shape.{Shape}
 use Rattle.core_list.specs.ListState.{ListState, sweep_steps, most_steps}
 use Rattle.core_steps.specs.declared.op.Op.{Op}

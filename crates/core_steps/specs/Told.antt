@@ -1,5 +1,5 @@
 -- What an event tells is there: a section that is a module's, and one of its tags.
-use Rattle.std.specs.Prelude.{ℕ, ◌<◌, List}
+use Rattle.std.specs.Prelude.{◌<◌, List}
 use Rattle.tag_section.specs.Section.{Section}
 use Rattle.core_steps.specs.declared.op.Event.{Event}
 use Rattle.core_steps.specs.declared.op.Event.TheVariants.{Stepped, Released, Kept}

@@ -1,14 +1,13 @@
 -- A schedule that is read is one that can be played.
-use Rattle.std.proofs.Common.{◌≡◌, ℕ, ◌+◌, ◌-◌, ◌<◌, ◌≤◌, List, [], ◌∷◌, refl, sym, ap, ◌∙◌, subst, arith, Bool, true, false, ◌&&◌, nat_le, nat_lt, length, All, Vec, Global, Result, Ok, Err}
+use Rattle.std.proofs.Common.{◌≡◌, ℕ, ◌+◌, ◌-◌, ◌<◌, ◌≤◌, List, [], ◌∷◌, refl, ap, ◌∙◌, subst, arith, Bool, true, false, ◌&&◌, nat_le, nat_lt, All, Vec, Global, Result, Ok, Err}
 use Rattle.std.specs.Prelude.{⊤}
 use Rattle.std.proofs.lemmas.Bool.{leb-true, ltb-true}
 use Rattle.std.specs.List.{AllByRecursion}
 use Rattle.std.proofs.lemmas.List.Elements.{All-from_recursion}
 use Rattle.tag_model.specs.Shape.{IsChecked}
-use Rattle.tag_section.specs.Section.{Section, AreSections}
-use Rattle.core_steps.specs.CoreState.{CoreState, IsOpOf, SectionsFitShape, fresh, fresh_modules}
+use Rattle.tag_section.specs.Section.{Section}
+use Rattle.core_steps.specs.CoreState.{CoreState, IsOpOf, SectionsFitShape, fresh}
 use Rattle.core_steps.specs.Machine.{is_new_key}
-use Rattle.core_steps.specs.Modules.{section_len}
 use Rattle.core_steps.proofs.Meaning.{core_of_fresh}
 use Rattle.trace.specs.declared.code.Code.{Code}
 use Rattle.trace.specs.declared.steps.StepAct.{StepAct}

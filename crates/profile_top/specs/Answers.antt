@@ -1,5 +1,5 @@
 -- What is written for an input, and the status.
-use Rattle.std.specs.Prelude.{◌≡◌, ℕ, ◌++◌, ◌+◌, ◌==◌, ◌⊎◌, ⊤, Bool, Option, Some, None, Result, Ok, Err, List, [], ◌∷◌, length, codes, decimal, nat_lt, if◌then◌else◌}
+use Rattle.std.specs.Prelude.{◌≡◌, ℕ, ◌++◌, ◌+◌, ◌⊎◌, ⊤, Bool, Option, Some, None, Result, Ok, Err, List, [], ◌∷◌, length, codes, decimal, nat_lt, if◌then◌else◌}
 use Rattle.std.specs.Str.{bytes_eq}
 use Rattle.std.specs.Io.KnownBytes.{Appends, Consumes, IsAtEnd}
 use Rattle.outside.specs.Bytes.{AppendsPrefix}

@@ -1,5 +1,5 @@
 -- What a schedule means: a fold over its lines that keeps the machine, the modules, the moves of all steps so far and the text so far. It has no words: a word is the sum of the moves on it.
-use Rattle.std.specs.Prelude.{◌≡◌, ℕ, zero, suc, ◌+◌, ◌<◌, ◌≤◌, ◌==◌, nat_lt, Option, Some, None, Result, Ok, Err, List, [], ◌∷◌, ◌++◌, length, if◌then◌else◌, Bool, ⊤}
+use Rattle.std.specs.Prelude.{◌≡◌, ℕ, zero, suc, ◌+◌, ◌<◌, ◌==◌, nat_lt, Option, Some, None, Result, Ok, Err, List, [], ◌∷◌, ◌++◌, length, if◌then◌else◌, Bool, ⊤}
 use Rattle.tag_model.specs.declared.shape.Shape.{Shape}
 use Rattle.tag_model.specs.Moves.{Move}
 use Rattle.tag_section.specs.Section.{Section}
@@ -7,7 +7,6 @@ use Rattle.module_area.specs.declared.entry.Entry.{Entry}
 use Rattle.core_list.specs.ListState.{loaded_entry}
 use Rattle.core_steps.specs.declared.op.StepRefused.{StepRefused}
 use Rattle.core_steps.specs.declared.op.Actor.{Actor}
-use Rattle.core_steps.specs.declared.op.Actor.TheVariants as actor
 use Rattle.core_steps.specs.declared.op.Op.{Op}
 use Rattle.core_steps.specs.Machine.{Machine}
 use Rattle.core_steps.specs.Modules.{ModuleTable, section_len}

@@ -1,9 +1,9 @@
 -- What a judgement that gave a value went through.
-use Rattle.std.proofs.Common.{◌≡◌, ℕ, ◌<◌, ◌≤◌, Bool, true, false, cond, ◌&&◌, not, nat_lt, nat_le, List, Option, Some, None, Result, Ok, Err, refl, sym, ap, ◌∙◌, subst, arith}
+use Rattle.std.proofs.Common.{◌≡◌, ℕ, ◌<◌, ◌≤◌, Bool, true, false, cond, ◌&&◌, nat_lt, nat_le, List, Option, Some, None, Result, Ok, Err, refl, arith}
 use Rattle.std.specs.Bool.{⊤}
 use Rattle.std.specs.Option.{ok_or, option_and_then}
 use Rattle.std.proofs.lemmas.Bool.{cond_both, leb-true, ltb-true}
-use Rattle.text_form.specs.Numbers.{number_value, number_in, number_below}
+use Rattle.text_form.specs.Numbers.{number_value, number_below}
 use Rattle.trace.specs.declared.code.Code.{Code}
 use Rattle.trace.specs.Judging.{◌>>=◌, ◌>>◌, need, at}
 use Rattle.trace.specs.Words.{number_word, cpu_word}

@@ -1,8 +1,8 @@
 -- What the lines before the body leave.
-use Rattle.std.proofs.Common.{◌≡◌, ℕ, suc, ◌+◌, ◌-◌, ◌<◌, ◌≤◌, Bool, true, false, cond, not, ◌&&◌, ◌||◌, eqb, ltb, List, [], ◌∷◌, ◌++◌, length, get_or, set, Option, Some, None, is_none, is_some, unwrap_or, Result, Ok, Err, IfSome, All, refl, sym, ap, ◌∙◌, subst, arith, inl, inr}
+use Rattle.std.proofs.Common.{◌≡◌, ℕ, ◌+◌, ◌-◌, ◌<◌, ◌≤◌, Bool, true, false, not, ◌&&◌, eqb, ltb, List, [], ◌∷◌, ◌++◌, length, set, is_none, Result, Ok, IfSome, All, refl, sym, ap, ◌∙◌, subst, arith, inl, inr}
 use Rattle.std.specs.Bool.{⊤}
 use Rattle.std.proofs.lemmas.Bool.{ltb-true, eqb-true, cases_lt}
-use Rattle.std.proofs.lemmas.Grind.{common_steps, elements}
+use Rattle.std.proofs.lemmas.Grind.{common_steps}
 use Rattle.std.proofs.lemmas.List.{length-set, get_or-set_other, get_or_append_left}
 use Rattle.std.proofs.lemmas.List.Elements.{All-from_get_or}
 use Rattle.codetag.specs.TagParts.{TagParts}
@@ -15,7 +15,7 @@ use Rattle.trace.specs.declared.code.Code.TheVariants as code
 use Rattle.trace.specs.declared.head.Head.{Head}
 use Rattle.trace.specs.declared.head.Size.{Size}
 use Rattle.trace.specs.declared.head.Size.TheVariants as size
-use Rattle.trace.specs.Head.{least, most, size_in, with_size, with_sections, empty_head, cpus_of, size_line, kernel_line, section_form, begun, module_line, tag_of, added, tag_line}
+use Rattle.trace.specs.Head.{least, most, size_in, with_size, with_sections, size_line, kernel_line, section_form, begun, module_line, tag_of, added, tag_line}
 use Rattle.trace.specs.Judging.{◌>>=◌, ◌>>◌, need}
 use Rattle.trace.specs.Words.{number_word}
 use Rattle.trace.proofs.Binds.{bind_ok, then_ok, need_ok, need_is, both_true, number_word_ok}

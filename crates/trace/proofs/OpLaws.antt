@@ -1,9 +1,8 @@
 -- What the lines of a body give lies in its ranges.
-use Rattle.std.proofs.Common.{◌≡◌, ℕ, ◌+◌, ◌-◌, ◌<◌, ◌≤◌, Bool, true, false, cond, not, eqb, ltb, List, length, get_or, Option, Some, None, position, Result, Ok, Err, refl, sym, ap, ◌∙◌, subst, arith}
-use Rattle.std.specs.List.{before_first, after_first, position_or_len}
-use Rattle.std.specs.Option.{ok_or}
+use Rattle.std.proofs.Common.{◌≡◌, ℕ, ◌<◌, true, not, eqb, List, length, Some, Result, Ok, ap, subst, arith}
+use Rattle.std.specs.List.{before_first, after_first}
 use Rattle.std.specs.Str.{bytes_eq}
-use Rattle.std.proofs.lemmas.Bool.{cond_both, ltb-true, eq-eqb}
+use Rattle.std.proofs.lemmas.Bool.{ltb-true, eq-eqb}
 use Rattle.std.proofs.lemmas.List.{length-map}
 use Rattle.std.proofs.lemmas.List.Quantifiers.{position-Some}
 use Rattle.tag_section.specs.Section.{Section, section_at, number_of, names_of}
@@ -15,12 +14,12 @@ use Rattle.trace.specs.declared.trace_words.OnName.TheVariants as name
 use Rattle.trace.specs.declared.traces.OnOp.{OnOp}
 use Rattle.trace.specs.declared.traces.TraceOp.{TraceOp}
 use Rattle.trace.specs.declared.traces.TraceOp.TheVariants as op
-use Rattle.trace.specs.Formed.{IsKey, IsModule, IsTag, IsFormedOp, IsFormedOn}
+use Rattle.trace.specs.Formed.{IsModule, IsTag, IsFormedOp, IsFormedOn}
 use Rattle.trace.specs.Judging.{◌>>=◌, ◌>>◌, need}
 use Rattle.trace.specs.Places.{module_word, tag_word}
 use Rattle.trace.specs.TraceGrammar.{on_words, trace_op, on_line}
 use Rattle.trace.specs.TraceWords.{on_name}
-use Rattle.trace.specs.Words.{number_word, key_word, cpu_word}
+use Rattle.trace.specs.Words.{cpu_word}
 use Rattle.trace.proofs.Binds.{bind_ok, need_ok, ok_or_ok, number_word_ok, number_below_ok, cpu_word_ok}
 
 found : (sections : List Section) (word : List ℕ) (n : ℕ) → number_of sections word ≡ Some n → n < length sections

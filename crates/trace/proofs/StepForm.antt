@@ -4,7 +4,6 @@ use Rattle.std.specs.List.{AllByRecursion}
 use Rattle.std.proofs.lemmas.Bool.{leb-true, ltb-true, eqb-true, not-false}
 use Rattle.std.proofs.lemmas.List.Sums.{sum_by_push}
 use Rattle.std.proofs.lemmas.Result.{IfOk-at_ok}
-use Rattle.tag_section.specs.Section.{Section}
 use Rattle.text_form.specs.Lines.{lines_of, tail_of}
 use Rattle.text_form.specs.Words.{words_of, word_at, has_empty_word}
 use Rattle.trace.specs.declared.code.Code.{Code}
@@ -17,14 +16,12 @@ use Rattle.trace.specs.declared.step_words.StepKeyword.TheVariants as keyword
 use Rattle.trace.specs.declared.steps.StepAct.{StepAct}
 use Rattle.trace.specs.declared.steps.StepAct.TheVariants as act
 use Rattle.trace.specs.declared.steps.StepLine.{StepLine}
-use Rattle.trace.specs.declared.steps.StepOp.{StepOp}
-use Rattle.trace.specs.declared.steps.StepOp.TheVariants as op
 use Rattle.trace.specs.declared.steps.Steps.{Steps}
 use Rattle.trace.specs.Forms.{line_form, tail_form, is_skipped, first_line}
 use Rattle.trace.specs.Head.{cpus_of, section_form}
 use Rattle.trace.specs.Judging.{at, need}
 use Rattle.trace.specs.Words.{is_word}
-use Rattle.trace.specs.StepForm.{IsStepOp, IsStepAct, is_printing, prints_of, AreSteps}
+use Rattle.trace.specs.StepForm.{IsStepAct, is_printing, prints_of, AreSteps}
 use Rattle.trace.specs.StepReading.{empty_reading, with_head, with_act, with_print, in_body, keyword_line, step_line, step_lines, steps_from, steps_of}
 use Rattle.trace.specs.StepWords.{step_keyword}
 use Rattle.trace.proofs.Judged.{bound, given, passed, skipped, checked, checks, numbered}

@@ -1,11 +1,11 @@
 -- What the reader of traces gives is formed.
-use Rattle.std.proofs.Common.{◌≡◌, ℕ, suc, ◌+◌, ◌-◌, ◌<◌, ◌≤◌, Bool, true, false, cond, not, ◌&&◌, ◌||◌, eqb, ltb, leb, List, [], ◌∷◌, ◌++◌, length, drop, Option, Some, None, is_none, is_some, unwrap_or, Result, Ok, Err, IfSome, IfOk, All, refl, sym, ap, ◌∙◌, subst, arith, inl, inr}
+use Rattle.std.proofs.Common.{◌≡◌, ℕ, suc, ◌+◌, ◌<◌, ◌≤◌, Bool, true, false, cond, not, ◌||◌, eqb, ltb, leb, List, [], ◌∷◌, ◌++◌, length, drop, Option, Some, None, is_some, unwrap_or, Result, Ok, Err, IfSome, IfOk, All, refl, sym, ap, ◌∙◌, subst, arith}
 use Rattle.std.specs.Bool.{⊤}
-use Rattle.std.proofs.lemmas.Bool.{cond_both, false_from_ne_true, ltb-true, eqb-true, eq-eqb, leb-true, cases_lt}
+use Rattle.std.proofs.lemmas.Bool.{cond_both, false_from_ne_true, eqb-true, leb-true}
 use Rattle.std.proofs.lemmas.List.{length-append}
-use Rattle.std.proofs.lemmas.List.Elements.{All-nil, All-push, All-pop, All-append}
+use Rattle.std.proofs.lemmas.List.Elements.{All-nil, All-push, All-pop}
 use Rattle.tag_section.specs.ModuleName.{kernel_name}
-use Rattle.tag_section.specs.Section.{Section, section_at, with_section, with_tag}
+use Rattle.tag_section.specs.Section.{Section, with_section, with_tag}
 use Rattle.std.specs.List.{list_all}
 use Rattle.text_form.specs.Lines.{is_form_byte, lines_of, tail_of}
 use Rattle.text_form.specs.Words.{words_of, word_at, has_empty_word}
@@ -22,7 +22,7 @@ use Rattle.trace.specs.declared.traces.Item.{Item}
 use Rattle.trace.specs.declared.traces.Item.TheVariants as item
 use Rattle.trace.specs.declared.traces.OnOp.{OnOp}
 use Rattle.trace.specs.declared.traces.Trace.{Trace}
-use Rattle.trace.specs.Formed.{IsModule, IsFormedOn, IsFormedItem, IsFormedTrace}
+use Rattle.trace.specs.Formed.{IsFormedOn, IsFormedItem, IsFormedTrace}
 use Rattle.trace.specs.Forms.{line_form, tail_form, is_skipped, first_line}
 use Rattle.trace.specs.Head.{empty_head, cpus_of, size_line, kernel_line, section_form, module_line, tag_line}
 use Rattle.trace.specs.Judging.{◌>>=◌, ◌>>◌, need, at, Reads}

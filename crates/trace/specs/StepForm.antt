@@ -1,5 +1,5 @@
 -- What holds of every schedule that is read.
-use Rattle.std.specs.Prelude.{ℕ, ◌≡◌, ◌≢◌, ◌+◌, ◌-◌, ◌^◌, ◌<◌, ◌≤◌, Bool, true, false, List, length, IfSome, IsTrue, not, count_by, ⊤}
+use Rattle.std.specs.Prelude.{ℕ, ◌≢◌, ◌+◌, ◌-◌, ◌^◌, ◌<◌, ◌≤◌, Bool, true, false, List, length, IfSome, IsTrue, not, count_by, ⊤}
 use Rattle.std.specs.List.{AllByRecursion}
 use Rattle.tag_section.specs.Section.{Section, section_at, AreSections}
 use Rattle.trace.specs.declared.steps.StepAct.{StepAct}

@@ -1,5 +1,5 @@
 -- The lines of a trace's body.
-use Rattle.std.specs.Prelude.{ℕ, ◌==◌, not, List, length, Result, Ok, Err}
+use Rattle.std.specs.Prelude.{ℕ, ◌==◌, not, List, length, Result, Ok}
 use Rattle.tag_section.specs.Section.{Section}
 use Rattle.text_form.specs.Words.{words_of, word_at}
 use Rattle.trace.specs.declared.code.Code.{Code}

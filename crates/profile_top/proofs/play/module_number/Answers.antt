@@ -1,8 +1,6 @@
-use Rattle.std.proofs.Common.{◌≡◌, ℕ, ◌+◌, Option, Some, sym, ap, ◌∙◌, subst}
-use Rattle.module_area.specs.Area.{Area, IsBook}
-use Rattle.module_area.specs.Entries.{id_loaded, entry_of}
+use Rattle.std.proofs.Common.{sym, ap}
 use Rattle.profile_top.specs.Schedule.{module_number}
-use Rattle.profile_top.proofs.Numbers.{LoadedAs, loaded_as, number_below}
+use Rattle.profile_top.proofs.Numbers.{loaded_as, number_below}
 use Rattle.profile_top.proofs.play.module_number.Goals as goal
 
 pub returns-clause-number : goal.returns-clause-number

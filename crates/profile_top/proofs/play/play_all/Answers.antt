@@ -1,8 +1,5 @@
-use Rattle.std.proofs.Common.{◌≡◌, ℕ, List, Result, subst, sym, ap}
-use Rattle.std.specs.Prelude.{⊤}
-use Rattle.core_steps.specs.CoreState.{CoreState}
+use Rattle.std.proofs.Common.{Result, subst}
 use Rattle.core_steps.specs.StepsLeft.{steps_left}
-use Rattle.profile_top.specs.declared.act.ActError.{ActError}
 use Rattle.profile_top.specs.Printed.{Setting}
 use Rattle.profile_top.specs.Schedule.{Played, Shows, Follows, own_setting, core_played, one_step}
 use Rattle.profile_top.proofs.Stepping.{same_sizes, sizes_kept, own_kept, all_first, all_on, all_err, all_end}

@@ -1,4 +1,3 @@
-use Rattle.std.proofs.Common.{ℕ, List}
 use Rattle.core_steps.specs.StepsLeft.{steps_left}
 use Rattle.profile_top.specs.Schedule.{Played, Shows, SameSizes, own_setting, core_played}
 use Rattle.profile_top.proofs.Stepping.{GoesAll}

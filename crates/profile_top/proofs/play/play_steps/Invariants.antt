@@ -1,4 +1,4 @@
-use Rattle.std.proofs.Common.{ℕ, ◌-◌, List}
+use Rattle.std.proofs.Common.{◌-◌}
 use Rattle.profile_top.specs.Schedule.{Played, Shows, SameSizes, own_setting}
 use Rattle.profile_top.proofs.Stepping.{Goes}
 use Rattle.profile_top.proofs.play.play_steps.Given as goal

@@ -1,6 +1,6 @@
-use Rattle.std.proofs.Common.{◌≡◌, ℕ, Option, Some, None, Result, Ok, ap, sym, ◌∙◌, subst}
+use Rattle.std.proofs.Common.{ℕ, Option, Ok, ap, sym, subst}
 use Rattle.profile_top.specs.Printed.{words_text}
-use Rattle.profile_top.specs.Schedule.{Played, Follows, own_setting, number_of, words_of}
+use Rattle.profile_top.specs.Schedule.{Follows, own_setting, words_of}
 use Rattle.profile_top.proofs.Stepping.{text_shown}
 use Rattle.profile_top.proofs.play.play_words.Goals as goal
 

@@ -1,5 +1,5 @@
 use Rattle.std.proofs.lemmas.List.Elements.{All-push}
-use Rattle.std.proofs.Common.{arith, refl, false}
+use Rattle.std.proofs.Common.{arith, false}
 use Rattle.allocinfo.specs.declared.rows.Row.{Row}
 use Rattle.allocinfo.specs.Text.{IsRow}
 use Rattle.profile_top.proofs.Totals.{rows_more}

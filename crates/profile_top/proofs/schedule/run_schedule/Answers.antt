@@ -1,11 +1,10 @@
-use Rattle.std.proofs.Common.{◌≡◌, ℕ, List, All, Result, IfOk, ap, sym, ◌∙◌, subst, Ok, Err}
+use Rattle.std.proofs.Common.{◌≡◌, ℕ, List, All, Result, IfOk, sym, ◌∙◌, subst, Ok, Err}
 use Rattle.trace.specs.declared.code.TextError.{TextError}
 use Rattle.tag_section.specs.Section.{Section, names_of}
 use Rattle.core_steps.specs.CoreState.{CoreState, fresh}
 use Rattle.trace.specs.declared.steps.StepLine.{StepLine}
 use Rattle.trace.specs.declared.code.Code.{Code}
 use Rattle.profile_top.specs.Answers.{Gives, played, refused}
-use Rattle.profile_top.specs.declared.answer.Answer.{Answer}
 use Rattle.profile_top.specs.Schedule.{Played, Plays, IsLine, setting_of, shape_of, schedule_of}
 use Rattle.profile_top.proofs.Lines.{playable, played_all, gives_text, names_kept}
 use Rattle.profile_top.proofs.schedule.run_schedule.Goals as goal

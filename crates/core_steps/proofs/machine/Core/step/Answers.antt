@@ -1,4 +1,4 @@
-use Rattle.std.proofs.Common.{OnOk, OnErr, IfOk, Result, Ok, Err, ◌≡◌, ◌+◌, ◌<◌, ℕ, subst, sym, Option, None}
+use Rattle.std.proofs.Common.{OnOk, IfOk, Result, Ok, Err, ◌≡◌, ◌+◌, ◌<◌, ℕ, subst, sym, Option, None}
 use Rattle.tag_model.specs.StepRules.{StepsWith}
 use Rattle.core_steps.specs.declared.op.Actor.{Actor}
 use Rattle.core_steps.specs.declared.op.Actor.TheVariants as actor
