@@ -3,3 +3,4 @@ pub mod Totals
 pub mod Lines
 pub mod Serving
 pub mod Numbers
+pub mod ReachedLemmas

@@ -66,7 +66,7 @@ op_is sections step_actor.Manager (step_op.Load section) own is = record { behin
 op_is sections step_actor.Manager (step_op.Unload section) own is = record { behind_kernel = is.0; has_section = is.1 }
 op_is sections step_actor.Manager step_op.Clean own is = tt
 
-act_is : (cpus area : ℕ) (sections : List Section) (a : StepAct) → IsStepAct cpus sections a → IsAct (fresh (shape_of cpus area) sections) (act_of a)
+pub act_is : (cpus area : ℕ) (sections : List Section) (a : StepAct) → IsStepAct cpus sections a → IsAct (fresh (shape_of cpus area) sections) (act_of a)
 act_is cpus area sections (step_act.Do (step_actor.Cpu cpu) what) is = (is.0, op_is sections (step_actor.Cpu cpu) what is.1 is.2)
 act_is cpus area sections (step_act.Do step_actor.Manager what) is = (tt, op_is sections step_actor.Manager what is.1 is.2)
 act_is cpus area sections (step_act.Go who count) is = tt

@@ -2,3 +2,4 @@ pub mod Printed
 pub mod Acts
 pub mod Schedule
 pub mod Answers
+pub mod Reached

@@ -3,6 +3,7 @@
 
 mod act;
 mod answer;
+pub mod laws;
 mod number;
 mod play;
 mod print;
