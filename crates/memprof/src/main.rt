@@ -1,36 +1,28 @@
 //! The program `memprof`: memory-allocation profiles by code tag.
 #![tactic(auto)]
 
-ghost use Rattle.std.specs.Prelude.{◌≡◌, ◌≤◌, ◌⊎◌, ◌↔◌, IsSome, IfErr};
+ghost use Rattle.std.specs.Prelude.{◌≡◌, ◌≤◌, ◌↔◌, drop, IsSome};
 
 use outside::{StdSink, StdSource};
 use profile_top::memprof_still;
+use std::alloc::AllocError;
 use std::process::ExitCode;
 use std::{env, io};
 
 /// The status where memory ran out.
 const NO_MEMORY: u8 = 3;
 
-/// The status where the words are not taken.
+/// The status where the words are not taken. A word that is not text is none that is taken.
 const USAGE: u8 = 2;
 
-/// The words of the command line, without the program's name. A word that is not text is none that is taken.
-fn words(rt: &HostRuntime) -> Result<Vec<String>, u8>
-    ensures status { IfErr result (λ status. (status ≡ 2) ⊎ (status ≡ 3)) }
+/// The words of the command line: the arguments behind the first, which is the program's name.
+fn words(arguments: &[String]) -> &[String]
+    ensures behind_the_name { result.now ≡ drop 1 arguments.now }
 {
-    let mut all = match env::args(rt) {
-        Ok(all) => all,
-        Err(error) if error.kind() == io::ErrorKind::InvalidData => return Err(USAGE),
-        Err(_) => return Err(NO_MEMORY),
-    };
-    let _program = all.next();
-    let mut words = Vec::new(rt.alloc());
-    for word in all {
-        if words.push(word).is_err() {
-            return Err(NO_MEMORY);
-        }
+    match arguments.split_first() {
+        Some((_name, words)) => words,
+        None => arguments,
     }
-    Ok(words)
 }
 
 /// What is said on standard error.
@@ -47,13 +39,18 @@ fn complaint(status: u8) -> Option<&'static str>
 }
 
 fn main(rt: HostRuntime) -> ExitCode {
-    let status = match words(&rt) {
-        Ok(words) => {
-            let mut source = StdSource::new(rt.stdin());
-            let mut sink = StdSink::new(rt.stdout());
-            memprof_still(rt.alloc(), words.as_slice(), &mut source, &mut sink)
-        }
-        Err(status) => status,
+    let status = match env::args(&rt) {
+        Ok(all) => match all.collect::<Vec<String>>(rt.alloc()) {
+            Ok(arguments) => {
+                let words = words(arguments.as_slice());
+                let mut source = StdSource::new(rt.stdin());
+                let mut sink = StdSink::new(rt.stdout());
+                memprof_still(rt.alloc(), words, &mut source, &mut sink)
+            }
+            Err(AllocError) => NO_MEMORY,
+        },
+        Err(error) if error.kind() == io::ErrorKind::InvalidData => USAGE,
+        Err(_) => NO_MEMORY,
     };
     if let Some(text) = complaint(status) {
         let _said = eprintln!(rt; "{text}");
