@@ -27,3 +27,4 @@ pub mod Stops
 pub mod Swept
 pub mod Told
 pub mod Words
+mod Slots

@@ -6,3 +6,5 @@ pub mod StepRules
 pub mod Laws
 pub mod Histories
 pub mod Moves
+pub mod RefWord
+pub mod Index

@@ -3,7 +3,9 @@
 //! keep them in `rows`.
 #![tactic(auto)]
 
+pub mod index;
 pub mod limits;
+pub mod ref_word;
 pub mod rows;
 pub mod shape;
 pub mod state;

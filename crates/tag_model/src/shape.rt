@@ -1,7 +1,8 @@
 ghost use Rattle.std.specs.Prelude.{IfOk, ◌≡◌};
+ghost use Rattle.tag_model.specs.Index.{program_shape, word_count};
 ghost use Rattle.tag_model.specs.Shape.{checked, IsChecked};
 
-use crate::limits::{MAX_CPUS, MAX_FRAMES, MAX_TAGS, MAX_VECTORS};
+use crate::limits::{KERNEL_TAGS, MAX_CPUS, MAX_FRAMES, MAX_TAGS, MAX_VECTORS, VECTOR_CELLS};
 use thiserror::Error;
 
 /// How large a machine is.
@@ -60,4 +61,36 @@ impl Shape {
         }
         Ok(self)
     }
+    /// The shape of the program's machine.
+    pub fn program() -> Shape
+        ensures numbers { result ≡ program_shape }
+        ensures checked { IsChecked result }
+    {
+        Shape {
+            cpus: MAX_CPUS,
+            tags: MAX_TAGS,
+            kernel_tags: KERNEL_TAGS,
+            frames: MAX_FRAMES,
+            vectors: MAX_VECTORS,
+        }
+    }
+
+    /// How many words the machine has: one that is nobody's, two for each tag of a CPU, and one for each cell.
+    pub fn words(self) -> usize
+        requires { IsChecked self }
+        ensures { result ≡ word_count self }
+    {
+        let cpus = self.cpus as usize;
+        let cells = VECTOR_CELLS as usize;
+        1 + 2 * cpus * self.tags as usize
+            + cpus * self.frames as usize
+            + cpus * self.vectors as usize * cells
+    }
 }
+
+/// Worked rows: no CPU is refused and so are 65, also where a later number would be refused too.
+pub fn rows_of_shapes()
+    ensures program { checked program_shape ≡ Ok program_shape }
+    ensures no_cpu { checked (record { cpus = 0; tags = 1024; kernel_tags = 128; frames = 1025; vectors = 64 }) ≡ Err ShapeError.NoCpu }
+    ensures too_many_cpus { checked (record { cpus = 65; tags = 1024; kernel_tags = 0; frames = 1024; vectors = 64 }) ≡ Err ShapeError.TooManyCpus }
+{}

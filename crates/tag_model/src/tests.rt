@@ -1,3 +1,5 @@
+use crate::index::{byte_word, call_word, obj_cell, page_cell};
+use crate::ref_word::{Ref, RefWord};
 use crate::shape::{Shape, ShapeError};
 
 fn shape(cpus: u32, tags: u32, kernel_tags: u32, frames: u32, vectors: u32) -> Shape {
@@ -31,4 +33,37 @@ fn shapes_that_are_refused(rt: HostRuntime) {
     ] {
         assert_eq!(rt; refused.check(), Err(why));
     }
+}
+
+#[test]
+fn words_of_references(rt: HostRuntime) {
+    let packed = RefWord::pack(128, 4_096).word();
+    assert_eq!(rt; packed, 4_294_967_426);
+    assert_eq!(rt; packed.to_be_bytes(), [0, 0, 0, 1, 0, 0, 0, 0x82]);
+    for (word, says) in [
+        (0, Some(Ref::None)),
+        (1, Some(Ref::Empty)),
+        (2, None),
+        (
+            4_294_967_426,
+            Some(Ref::Counted {
+                number: 128,
+                size: 4_096,
+            }),
+        ),
+    ] {
+        assert_eq!(rt; RefWord::from_word(word).map(|found| found.read()), says);
+    }
+    assert_eq!(rt; RefWord::none().word(), 0);
+    assert_eq!(rt; RefWord::empty().word(), 1);
+}
+
+#[test]
+fn words_of_a_shape(rt: HostRuntime) {
+    let program = Shape::program();
+    assert_eq!(rt; program.words(), 458_753);
+    assert_eq!(rt; byte_word(program, 1, 0), 2_049);
+    assert_eq!(rt; call_word(program, 63, 1_023), 131_072);
+    assert_eq!(rt; page_cell(program, 63, 1_023), 196_608);
+    assert_eq!(rt; obj_cell(program, 63, 63, 63), 458_752);
 }
