@@ -71,6 +71,7 @@ impl Source for MemSource {
         ensures bound { ReadsAtMost result buffer.new }
         ensures bytes { ReadConsumes (Some self.old.left) (Some self.new.left) result buffer.new }
         ensures end { IfOk result (IsZeroAtEnd (Some self.old.left)) }
+        ensures unread { OnErr result (buffer.new ≡ buffer.old) }
         ensures cause { HasCause self.old.faults self.new.faults result }
 
         // What the source does, call by call.
@@ -79,7 +80,6 @@ impl Source for MemSource {
         ensures copied { IfOk result (λ n. buffer.new ≡ take n self.old.left ++ drop n buffer.old) }
         ensures given { IfOk result (λ n. self.new ≡ after_giving n self.old) }
         ensures refused { OnErr result (self.new ≡ after_refusing self.old) }
-        ensures unread { OnErr result (buffer.new ≡ buffer.old) }
     {
         let fails = self.failing.contains(&self.next);
         self.next = self.next.saturating_add(1);

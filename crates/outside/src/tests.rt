@@ -1,7 +1,7 @@
 use super::*;
 use std::alloc::Global;
 use std::io;
-use std::io::{ErrorKind, Read};
+use std::io::{ErrorKind, Read, Write};
 use std::process::Abort;
 use std::test::Fail;
 
@@ -85,20 +85,60 @@ fn writes_a_prefix(rt: HostRuntime) -> Result<(), Fail> {
     Ok(())
 }
 
-// Gives two bytes, and fails after that.
+// Fails at its first call, and reads and writes at those after it.
 #[derive(Drop)]
-struct Broken {
-    is_read: bool,
+struct Startled {
+    calls: u32,
 }
 
-impl Read for Broken {
-    fn read(&mut self, buf: &mut [u8]) -> io::Result<usize> {
-        if self.is_read || buf.len() < 2 {
-            return Err(io::Error::from(ErrorKind::Other));
-        }
-        self.is_read = true;
-        Ok(2)
+impl Startled {
+    fn is_first_call(&mut self) -> bool {
+        self.calls = self.calls.saturating_add(1);
+        self.calls == 1
     }
+}
+
+impl Read for Startled {
+    fn read(&mut self, buf: &mut [u8]) -> io::Result<usize> {
+        if self.is_first_call() {
+            return Err(io::Error::from(ErrorKind::Interrupted));
+        }
+        match (self.calls, buf) {
+            (2, [first, ..]) => {
+                *first = b'a';
+                Ok(1)
+            }
+            _ => Ok(0),
+        }
+    }
+}
+
+impl Write for Startled {
+    fn write(&mut self, buf: &[u8]) -> io::Result<usize> {
+        if self.is_first_call() {
+            return Err(io::Error::from(ErrorKind::Interrupted));
+        }
+        Ok(buf.len())
+    }
+
+    fn flush(&mut self) -> io::Result<()> {
+        Ok(())
+    }
+}
+
+// A fault is handed on, though the same call would succeed if it were made again.
+#[test]
+fn no_call_is_made_again(rt: HostRuntime) -> Result<(), Fail> {
+    let mut source = StdSource::new(Startled { calls: 0 });
+    let first = read_all(rt.alloc(), &mut source, 10);
+    assert!(rt; matches!(first, Err(ReadError::Failed)));
+    let bytes = read_all(rt.alloc(), &mut source, 10).expect(&rt, "the next calls succeed");
+    assert!(rt; is_text(&bytes, b"a"));
+
+    let mut sink = StdSink::new(Startled { calls: 0 });
+    assert!(rt; write_all(&mut sink, TEXT).is_err());
+    assert!(rt; write_all(&mut sink, TEXT).is_ok());
+    Ok(())
 }
 
 #[test]
@@ -106,9 +146,6 @@ fn reads_from_std(rt: HostRuntime) -> Result<(), Fail> {
     let mut whole = StdSource::new(TEXT);
     let bytes = read_all(rt.alloc(), &mut whole, 10).expect(&rt, "ten bytes fit");
     assert!(rt; is_text(&bytes, TEXT));
-    let mut broken = StdSource::new(Broken { is_read: false });
-    let cut = read_all(rt.alloc(), &mut broken, 10);
-    assert!(rt; matches!(cut, Err(ReadError::Failed)));
     Ok(())
 }
 

@@ -1,5 +1,5 @@
 //! What a source and a sink of bytes promise.
-ghost use Rattle.std.specs.Prelude.{ℕ, List, ◌<◌, length, Option, IfOk};
+ghost use Rattle.std.specs.Prelude.{◌≡◌, ℕ, List, ◌<◌, length, Option, IfOk, OnErr};
 ghost use Rattle.std.specs.Io.{ReadsAtMost, WritesAtMost};
 ghost use Rattle.std.specs.Io.KnownBytes.{ReadConsumes, WriteAppends};
 ghost use Rattle.outside.specs.Bytes.{IsZeroAtEnd};
@@ -15,12 +15,14 @@ pub trait Source {
     // How many calls failed so far. The count stays at 2^64 - 1 once it is there.
     ghost faults: { Self → ℕ };
 
-    /// Moves the first bytes that are left into the front of the buffer, and answers how many.
+    /// Moves the first bytes that are left into the front of the buffer, and answers how many. Where it
+    /// fails, the buffer is as it was.
     fn read(&mut self, buffer: &mut [u8]) -> Result<usize, Failed>
         requires { 0 < length buffer.old }
         ensures bound { ReadsAtMost result buffer.new }
         ensures bytes { ReadConsumes (left self.old) (left self.new) result buffer.new }
         ensures end { IfOk result (IsZeroAtEnd (left self.old)) }
+        ensures unread { OnErr result (buffer.new ≡ buffer.old) }
         ensures cause { HasCause (faults self.old) (faults self.new) result };
 }
 

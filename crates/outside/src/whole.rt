@@ -8,10 +8,12 @@ use crate::faults::{Failed, ReadError};
 use crate::traits::{Sink, Source};
 use std::alloc::Global;
 
-const PIECE: usize = 4096;
+/// The most bytes of one call to a source.
+pub(crate) const PIECE: usize = 4096;
 
 /// Reads all bytes up to the end of the source, of which there may be `limit`. It asks for at most one
-/// more. The bytes that were taken before an error stay taken.
+/// more. The bytes that were taken before an error stay taken. No call of the source failed, but where
+/// the answer says so.
 pub fn read_all<S: Source>(
     alloc: Global,
     source: &mut S,
@@ -24,6 +26,7 @@ pub fn read_all<S: Source>(
     ensures took { IfErr result (λ e. Took limit e (S.left source.old) (S.left source.new)) }
 
     ensures kept { S.faults source.old ≤ S.faults source.new }
+    ensures steady { ¬ IsErrOf result ReadError.Failed → S.faults source.new ≡ S.faults source.old }
     ensures cause { IsErrOf result ReadError.Failed → Rose (S.faults source.old) (S.faults source.new) }
 {
     let mut buffer = [0u8; PIECE];
@@ -45,6 +48,7 @@ fn read_pieces<S: Source>(
     ensures within { IfOk result (λ v. vec_len v ≤ limit) }
     ensures took { IfErr result (λ e. Took limit e (S.left source.old) (S.left source.new)) }
     ensures kept { S.faults source.old ≤ S.faults source.new }
+    ensures steady { ¬ IsErrOf result ReadError.Failed → S.faults source.new ≡ S.faults source.old }
     ensures cause { IsErrOf result ReadError.Failed → Rose (S.faults source.old) (S.faults source.new) }
 {
     let mut bytes = Vec::new(alloc);

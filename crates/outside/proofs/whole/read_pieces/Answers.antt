@@ -43,5 +43,5 @@ loop-turn-preserved g c =
       progress = omega (arith, grown.len, c.in_ok-n.ensures.bound.1);
       within = omega (arith, grown.len, c.in_ok-n.ensures.bound.1);
       taken = rw grown.items (Consumes-trans _ _ _ held piece c.loop-turn.invariant.taken c.in_ok-n.ensures.bytes.0);
-      kept = omega (arith, c.in_ok-n.ensures.cause.kept);
+      steady = omega (arith, c.in_ok-n.ensures.cause.steady);
     }

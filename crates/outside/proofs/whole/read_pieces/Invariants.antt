@@ -1,5 +1,5 @@
 -- Each turn took at least one byte, and no more than the limit were taken.
-use Rattle.std.proofs.Common.{◌≤◌, vec_len}
+use Rattle.std.proofs.Common.{◌≡◌, ◌≤◌, vec_len}
 use Rattle.std.specs.Io.KnownBytes.{Consumes}
 use Rattle.outside.proofs.whole.read_pieces.Given as goal
 
@@ -9,5 +9,5 @@ invariant-loop-turn g l =
       progress : l._turn ≤ vec_len l.bytes;
       within : vec_len l.bytes ≤ l.limit;
       taken : Consumes (g.S.Source.left l.initial.source) (g.S.Source.left l.source) l.bytes.items;
-      kept : g.S.Source.faults l.initial.source ≤ g.S.Source.faults l.source;
+      steady : g.S.Source.faults l.source ≡ g.S.Source.faults l.initial.source;
     }

@@ -13,5 +13,5 @@ loop-sent-preserved g c =
     record {
       within = omega (arith, rw rest at c.in_ok-sent.ensures.bound, length-drop sent bytes);
       out = rw (take-add sent count bytes) (Appends-trans _ _ _ (take sent bytes) (take count (drop sent bytes)) c.loop-sent.invariant.out (rw rest at c.in_ok-sent.ensures.bytes));
-      kept = omega (arith, c.in_ok-sent.ensures.cause.kept);
+      steady = omega (arith, c.in_ok-sent.ensures.cause.steady);
     }

@@ -1,5 +1,5 @@
 -- What went out so far is the front of the bytes, and no call failed.
-use Rattle.std.proofs.Common.{length, take, ◌-◌, ◌≤◌}
+use Rattle.std.proofs.Common.{length, take, ◌-◌, ◌≡◌, ◌≤◌}
 use Rattle.std.specs.Io.KnownBytes.{Appends}
 use Rattle.outside.proofs.whole.write_all.Given as goal
 
@@ -8,7 +8,7 @@ invariant-loop-sent g l =
     record {
       within : l.sent ≤ length l.bytes;
       out : Appends (g.K.Sink.taken l.initial.sink) (g.K.Sink.taken l.sink) (take l.sent l.bytes);
-      kept : g.K.Sink.faults l.initial.sink ≤ g.K.Sink.faults l.sink;
+      steady : g.K.Sink.faults l.sink ≡ g.K.Sink.faults l.initial.sink;
     }
 
 abbrev pub decreases-loop-sent : goal.decreases-loop-sent
