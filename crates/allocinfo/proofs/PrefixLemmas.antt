@@ -3,6 +3,7 @@ use Rattle.std.proofs.Common.{◌≡◌, ℕ, ◌≤◌, List, ◌++◌, length,
 use Rattle.std.proofs.Math.Seq.{take-append_seam}
 use Rattle.std.proofs.lemmas.List.{take-append-le, take-append-drop}
 use Rattle.codetag.specs.Prefix.{IsPrefix}
+use Rattle.codetag.proofs.PrefixLemmas.{prefix_append}
 
 -- what begins a middle text begins what the middle text begins
 pub prefix_through : (front more middle whole : List ℕ) → middle ≡ front ++ more → IsPrefix middle whole → IsPrefix front whole
@@ -18,3 +19,8 @@ pub err_through : {T E : Type 0} (r : Result T E) (front more middle whole : Lis
     → OnErr r (IsPrefix front whole)
 err_through (Ok value) front more middle whole joined begins = tt
 err_through (Err error) front more middle whole joined begins = prefix_through front more middle whole joined begins
+
+-- the same where the call left what had been appended before
+pub err_appended : {T E : Type 0} (r : Result T E) (front more whole : List ℕ) → whole ≡ front ++ more → OnErr r (IsPrefix front whole)
+err_appended (Ok value) front more whole joined = tt
+err_appended (Err error) front more whole joined = prefix_append front more whole joined

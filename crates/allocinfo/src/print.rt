@@ -1,4 +1,5 @@
 ghost use Rattle.std.specs.Prelude.{ℕ, ◌≡◌, ◌+◌, ◌++◌, codes, decimal, OnOk, OnErr};
+ghost use Rattle.std.specs.List.{flat_map};
 ghost use Rattle.codetag.specs.Prefix.{IsPrefix};
 ghost use Rattle.allocinfo.specs.Text.{header_text, right, signed_text, place_text, row_text, rows_text, IsRow, AreRows};
 ghost use Rattle.allocinfo.specs.declared.print.TheConstants.{BYTES_PLACES, CALLS_PLACES};
@@ -20,17 +21,33 @@ pub fn places_are_these()
     ensures calls { CALLS_PLACES ≡ 8 }
 {}
 
-/// Appends the two lines before the rows.
+/// Appends the two lines before the rows, or nothing.
 pub fn write_header(out: &mut Vec<u8>) -> Result<(), AllocError>
     ensures ok { OnOk result (out.new.items ≡ out.old.items ++ header_text) }
-    ensures err { OnErr result (IsPrefix out.old.items out.new.items) }
+    ensures err { OnErr result (out.new.items ≡ out.old.items) }
 {
     out.extend_from_slice(b"allocinfo - version: 1.0\n#     <size>  <calls> <tag info>\n")
 }
 
-/// Appends the line of a row.
-#[tactic(auto, unfolding(crate::specs::Text::row_text))]
+/// Appends the line of a row, or nothing.
 pub fn write_line(sections: &Sections, row: Row, out: &mut Vec<u8>) -> Result<(), AllocError>
+    requires { IsRow sections.now row }
+    ensures ok { OnOk result (out.new.items ≡ out.old.items ++ row_text sections.now row) }
+    ensures err { OnErr result (out.new.items ≡ out.old.items) }
+{
+    let start = out.len();
+    match write_parts(sections, row, out) {
+        Ok(()) => Ok(()),
+        Err(error) => {
+            out.truncate(start);
+            Err(error)
+        }
+    }
+}
+
+// Appends the parts of a row's line, up to the first for which no memory is left.
+#[tactic(auto, unfolding(crate::specs::Text::row_text))]
+fn write_parts(sections: &Sections, row: Row, out: &mut Vec<u8>) -> Result<(), AllocError>
     requires { IsRow sections.now row }
     ensures ok { OnOk result (out.new.items ≡ out.old.items ++ row_text sections.now row) }
     ensures err { OnErr result (IsPrefix out.old.items out.new.items) }
@@ -50,6 +67,15 @@ pub fn print_rows(sections: &Sections, rows: &[Row], out: &mut Vec<u8>) -> Resul
     ensures err { OnErr result (IsPrefix out.old.items out.new.items) }
 {
     write_header(out)?;
+    write_rows(sections, rows, out)
+}
+
+// Appends the lines of the rows.
+fn write_rows(sections: &Sections, rows: &[Row], out: &mut Vec<u8>) -> Result<(), AllocError>
+    requires { AreRows sections.now rows.now }
+    ensures ok { OnOk result (out.new.items ≡ out.old.items ++ flat_map (row_text sections.now) rows.now) }
+    ensures err { OnErr result (IsPrefix out.old.items out.new.items) }
+{
     for row in rows {
         write_line(sections, *row, out)?;
     }
@@ -94,7 +120,7 @@ fn write_right(places: usize, text: &[u8], out: &mut Vec<u8>) -> Result<(), Allo
 fn write_place(sections: &Sections, row: Row, out: &mut Vec<u8>) -> Result<(), AllocError>
     requires { IsRow sections.now row }
     ensures ok { OnOk result (out.new.items ≡ out.old.items ++ place_text sections.now row) }
-    ensures err { OnErr result (IsPrefix out.old.items out.new.items) }
+    ensures err { OnErr result (out.new.items ≡ out.old.items) }
 {
     let tag = sections.tag(row.section, row.index);
     if row.kept {

@@ -2,10 +2,12 @@
 #![tactic(auto)]
 
 pub mod names;
+mod number;
 pub mod tag;
 pub mod text;
 
 pub use names::{is_file, is_function};
+pub use number::write_number;
 pub use tag::{CodeTag, TagError};
 pub use text::TagText;
 

@@ -96,12 +96,13 @@ impl CodeTag {
         self.function.as_slice()
     }
 
-    /// Appends `file:line func:function`, or `file:line [module] func:function`.
+    /// Appends `file:line func:function`, or `file:line [module] func:function`. Where memory runs out,
+    /// nothing is appended.
     #[tactic(auto, using(std::proofs::lemmas::Grind::common_steps), unfolding(crate::specs::TagParts::tag_text))]
     pub fn to_text(&self, module_name: Option<&[u8]>, out: &mut Vec<u8>) -> Result<(), AllocError>
         ensures ok { OnOk result
             (out.new.items ≡ out.old.items ++ tag_text self.now (option_copied module_name.entry)) }
-        ensures err { OnErr result (IsPrefix out.old.items out.new.items) }
+        ensures err { OnErr result (out.new.items ≡ out.old.items) }
     {
         let mut buffer = Buffer::new();
         let line = buffer.format(self.line).as_bytes();
@@ -122,11 +123,11 @@ impl CodeTag {
         }
     }
 
-    /// Appends `file:line [module:kept] func:function`.
+    /// Appends `file:line [module:kept] func:function`. Where memory runs out, nothing is appended.
     #[tactic(auto, using(std::proofs::lemmas::Grind::common_steps), unfolding(crate::specs::TagParts::kept_text))]
     pub fn to_text_kept(&self, module_name: &[u8], out: &mut Vec<u8>) -> Result<(), AllocError>
         ensures ok { OnOk result (out.new.items ≡ out.old.items ++ kept_text self.now module_name.now) }
-        ensures err { OnErr result (IsPrefix out.old.items out.new.items) }
+        ensures err { OnErr result (out.new.items ≡ out.old.items) }
     {
         let mut buffer = Buffer::new();
         let line = buffer.format(self.line).as_bytes();
@@ -145,8 +146,23 @@ impl CodeTag {
     }
 }
 
-// Appends the pieces one after another.
+// Appends the pieces one after another, or none of them.
 fn append_all(pieces: &[&[u8]], out: &mut Vec<u8>) -> Result<(), AllocError>
+    ensures ok { OnOk result (out.new.items ≡ out.old.items ++ flat_map (λ piece. piece.now) pieces.now) }
+    ensures err { OnErr result (out.new.items ≡ out.old.items) }
+{
+    let start = out.len();
+    match append_pieces(pieces, out) {
+        Ok(()) => Ok(()),
+        Err(error) => {
+            out.truncate(start);
+            Err(error)
+        }
+    }
+}
+
+// Appends the pieces up to the first for which no memory is left.
+fn append_pieces(pieces: &[&[u8]], out: &mut Vec<u8>) -> Result<(), AllocError>
     ensures ok { OnOk result (out.new.items ≡ out.old.items ++ flat_map (λ piece. piece.now) pieces.now) }
     ensures err { OnErr result (IsPrefix out.old.items out.new.items) }
 {

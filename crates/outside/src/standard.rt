@@ -37,11 +37,7 @@ impl<I: Read> StdSource<I> {
 }
 
 // Reads by way of a piece of its own, since a reader of std's may write to the buffer and fail then.
-fn read_piece<I: Read>(
-    input: &mut I,
-    piece: &mut [u8],
-    buffer: &mut [u8],
-) -> Result<usize, Error>
+fn read_piece<I: Read>(input: &mut I, piece: &mut [u8], buffer: &mut [u8]) -> Result<usize, Error>
     requires piece { 0 < length piece.old }
     requires room { 0 < length buffer.old }
     ensures bound { ReadsAtMost result buffer.new }

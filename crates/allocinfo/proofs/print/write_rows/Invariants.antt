@@ -1,7 +1,7 @@
 use Rattle.std.proofs.Common.{◌≡◌, ◌++◌, take}
 use Rattle.std.specs.List.{flat_map}
 use Rattle.allocinfo.specs.Text.{row_text}
-use Rattle.allocinfo.proofs.print.print_rows.Given as goal
+use Rattle.allocinfo.proofs.print.write_rows.Given as goal
 
 abbrev pub invariant-loop-row : goal.invariant-loop-row
 invariant-loop-row l = l.out.items ≡ l.initial.out.items ++ flat_map (row_text l.sections) (take l.row-index l.rows)
