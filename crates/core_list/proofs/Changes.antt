@@ -10,7 +10,7 @@ use Rattle.tag_model.specs.declared.state.Reader.{Reader}
 use Rattle.tag_model.specs.declared.state.Record.{Record}
 use Rattle.tag_model.specs.declared.state.Run.{Run}
 use Rattle.tag_model.specs.declared.state.Sweep.TheVariants as sweep
-use Rattle.tag_model.specs.StepRules.{Enters, Leaves, Loads, MarksDead, Releases, Scans, begins_pass, without_id}
+use Rattle.tag_model.specs.StepRules.{Enters, Leaves, Loads, MarksDead, Releases, Scans, begins_pass, run_on, without_id}
 use Rattle.tag_model.specs.WordState.{word_place}
 use Rattle.module_area.specs.declared.entry.Entry.{Entry}
 use Rattle.module_area.specs.declared.entry.State.TheVariants.{Loaded}
@@ -32,19 +32,30 @@ row-enters l n id e away ok found loaded =
       after = ap part (records_changed l.area.entries id e entered at);
     }
 
-pub row-leaves : (l : ListState) (n id : ℕ) (e : Entry) (away : List Run) → IsList l → entry_of l.area.entries id ≡ Some e → Leaves (list_part n (run_of e ∷ away) l) (list_part n away (left_list id l))
-row-leaves l n id e away ok found =
+-- the run that it puts on its way is the entry's
+pub enters_run : (l : ListState) (n id : ℕ) (e : Entry) (away : List Run) (ok : IsList l) (found : entry_of l.area.entries id ≡ Some e) (loaded : e.state ≡ Loaded) → run_of e ≡ run_on (row-enters l n id e away ok found loaded).entry
+unfolding row-enters
+enters_run l n id e away ok found loaded = refl
+
+pub row-leaves : (l : ListState) (n id : ℕ) (e : Entry) (run : Run) (ahead behind : List Run) → IsList l → entry_of l.area.entries id ≡ Some e → run ≡ run_of e → Leaves (list_part n (ahead ++ run ∷ behind) l) (list_part n (ahead ++ behind) (left_list id l))
+row-leaves l n id e run ahead behind ok found is =
     let at = book_entry_at l.area id e ok.book found in
-    let part : List Record → ListPart = λ rs. record { records = rs; sweep = l.sweep; stops = l.stops; reads = n; away = away } in
+    let part : List Record → ListPart = λ rs. record { records = rs; sweep = l.sweep; stops = l.stops; reads = n; away = ahead ++ behind } in
     record {
       front = map record_of at.front;
       entry = record_of e;
       back = map record_of at.back;
-      runs = away;
+      ahead = ahead;
+      behind = behind;
       there = records_at l.area.entries id e at;
-      running = refl;
+      running = ap (λ (x : Run). ahead ++ x ∷ behind) is;
       after = ap part (records_changed l.area.entries id e left at);
     }
+
+-- the run that ends is the entry's
+pub leaves_run : (l : ListState) (n id : ℕ) (e : Entry) (run : Run) (ahead behind : List Run) (ok : IsList l) (found : entry_of l.area.entries id ≡ Some e) (is : run ≡ run_of e) → run ≡ run_on (row-leaves l n id e run ahead behind ok found is).entry
+unfolding row-leaves
+leaves_run l n id e run ahead behind ok found is = is
 
 pub row-loads : (k : Shape) (l : ListState) (n section size : ℕ) (away : List Run) → IsList l → k.kernel_tags ≤ l.area.first → l.area.first + l.area.tags ≤ k.tags → 1 ≤ size → load_refusal section size l ≡ None
     → Loads k section (or_zero (least_start l.area size)) size (l.last_id + 1) (list_part n away l) (list_part n away (loaded section size l))

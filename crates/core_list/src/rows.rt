@@ -18,7 +18,7 @@ ghost use Rattle.core_list.specs.ListState.{ListState, IsList, dead_list, entere
 /// Each change of the list is a step of the step rules.
 pub fn changes_are_rows()
     ensures enters { (l : ListState) (n id : ℕ) (e : Entry) (away : List Run) → IsList l → entry_of l.area.entries id ≡ Some e → e.state ≡ Loaded → Enters (list_part n away l) (list_part n (run_of e ∷ away) (entered_list id l)) }
-    ensures leaves { (l : ListState) (n id : ℕ) (e : Entry) (away : List Run) → IsList l → entry_of l.area.entries id ≡ Some e → Leaves (list_part n (run_of e ∷ away) l) (list_part n away (left_list id l)) }
+    ensures leaves { (l : ListState) (n id : ℕ) (e : Entry) (ahead behind : List Run) → IsList l → entry_of l.area.entries id ≡ Some e → Leaves (list_part n (ahead ++ run_of e ∷ behind) l) (list_part n (ahead ++ behind) (left_list id l)) }
     ensures loads { (k : Shape) (l : ListState) (n section size : ℕ) (away : List Run) → IsList l → k.kernel_tags ≤ l.area.first → l.area.first + l.area.tags ≤ k.tags → 1 ≤ size → load_refusal section size l ≡ None
         → Loads k section (or_zero (least_start l.area size)) size (l.last_id + 1) (list_part n away l) (list_part n away (loaded section size l)) }
     ensures marks_dead { (l : ListState) (n id : ℕ) (e : Entry) (away : List Run) → IsList l → entry_of l.area.entries id ≡ Some e → e.state ≡ Loaded → e.users ≡ 0 → MarksDead (list_part n away l) (list_part n away (dead_list id l)) }

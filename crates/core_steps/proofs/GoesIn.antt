@@ -5,17 +5,16 @@ use Rattle.std.proofs.lemmas.List.{length-set, get_or-set_same, get_or-set_other
 use Rattle.std.proofs.lemmas.List.Elements.{All-contains, All-map, All-weaker}
 use Rattle.std.proofs.lemmas.Option.{none-some, same_Some}
 use Rattle.tag_model.specs.declared.shape.Shape.{Shape}
-use Rattle.tag_model.specs.declared.state.Part.TheVariants.{Modules}
 use Rattle.tag_model.specs.declared.state.Run.{Run}
 use Rattle.tag_model.specs.Laws.{Safe}
-use Rattle.tag_model.specs.StepRules.{GivesRun, Leaves, Steps, StepsWith, TakesRun, enters, gives, gives_run, leaves, takes, takes_run}
+use Rattle.tag_model.specs.StepRules.{GivesRun, StepsWith, TakesRun, enters_cpu, leaves_cpu}
 use Rattle.tag_model.specs.Reference.{is_settled}
 use Rattle.tag_model.proofs.Steps.{safe-steps_with}
 use Rattle.module_area.specs.declared.entry.Entry.{Entry}
 use Rattle.module_area.specs.Area.{LiesIn}
 use Rattle.module_area.specs.Entries.{entered, left as one_left}
 use Rattle.core_list.specs.ListState.{ListState, IsList, is_some_entry, entered_list, left_list, list_part, loaded_entry, run_of, with_changed}
-use Rattle.core_list.proofs.Changes.{row-enters, row-leaves}
+use Rattle.core_list.proofs.Changes.{enters_run, leaves_run, row-enters, row-leaves}
 use Rattle.core_list.proofs.Kept.{list_entered, list_left}
 use Rattle.tag_section.specs.Section.{Section}
 use Rattle.core_steps.specs.declared.op.StepRefused.TheVariants.{ListHeld, NotRunning, Inside, NotLoaded}
@@ -93,28 +92,34 @@ in_by s core cpu below section within e is none reads =
     let loaded = loaded_is section ms.list e core.modules.list.book is in
     let list = entered_list e.id ms.list in
     let new = with_inside ms cpu section (Some (run_of e)) list in
-    let first : Steps s.shape (state_after reads s) (state_with reads (run_of e ∷ []) m s.words (runs_of ms) list) = record {
-      v = Modules (list_part reads [] ms.list) ∷ [];
-      w = Modules (list_part reads (run_of e ∷ []) list) ∷ [];
-      row = enters (row-enters ms.list reads e.id e [] core.modules.list loaded.by_id loaded.loaded);
-      becomes = list_becomes reads m s.words (runs_of ms) [] (run_of e ∷ []) ms.list list.area;
-    } in
     let put = put_in (inside_at ms cpu) section (run_of e) (omega (arith, core.modules.slots cpu below)) none in
     let here : runs_of new cpu ≡ put.front ++ run_of e ∷ put.back = ap runs_in (inside_here ms cpu section (Some (run_of e)) list (omega (arith, core.modules.cpus))) ∙ put.all in
     let move : GivesRun (own_part m s.words cpu (runs_of ms cpu)) (own_part m s.words cpu (runs_of new cpu)) (list_part reads (run_of e ∷ []) list) (list_part reads [] list) = record {
       front = put.front;
       run = run_of e;
       back = put.back;
-      runs = [];
+      ahead = [];
+      behind = [];
       away = refl;
       first = none_on s core cpu below section e loaded none;
       had = put.others;
       cpu = ap (own_part m s.words cpu) here;
       list = refl;
     } in
-    gives first (gives_run move)
-    (own_becomes reads m s.words cpu (omega (arith, core.machine.hands, core.words)) (omega (arith, core.machine.hands)) (runs_of ms) (runs_of new) (run_of e ∷ []) [] list
-    (λ j apart. ap runs_in (inside_other ms cpu section (Some (run_of e)) list j apart)))
+    enters_cpu (record {
+      mid = state_with reads (run_of e ∷ []) m s.words (runs_of ms) list;
+      outside = own_part m s.words cpu (runs_of ms cpu);
+      inside = own_part m s.words cpu (runs_of new cpu);
+      before = list_part reads [] ms.list;
+      entered = list_part reads (run_of e ∷ []) list;
+      after = list_part reads [] list;
+      enters = row-enters ms.list reads e.id e [] core.modules.list loaded.by_id loaded.loaded;
+      enters_state = list_becomes reads m s.words (runs_of ms) [] (run_of e ∷ []) ms.list list.area;
+      gives = move;
+      gives_state = own_becomes reads m s.words cpu (omega (arith, core.machine.hands, core.words)) (omega (arith, core.machine.hands)) (runs_of ms) (runs_of new) (run_of e ∷ []) [] list
+          (λ j apart. ap runs_in (inside_other ms cpu section (Some (run_of e)) list j apart));
+      same_run = enters_run ms.list reads e.id e [] core.modules.list loaded.by_id loaded.loaded;
+    })
 
 -- a CPU goes in
 pub goes_in_row : (s : CoreState) → IsCore s → (cpu : ℕ) → cpu < s.shape.cpus → (section : ℕ) → section < length s.sections → enter_refusal (scene_at s.modules cpu) section ≡ None
@@ -148,17 +153,20 @@ out_by s core cpu below section within r is free reads =
       cpu = ap (own_part m s.words cpu) here;
       list = refl;
     } in
-    let leave : Leaves (list_part reads (r ∷ []) ms.list) (list_part reads [] list) =
-    subst (λ (x : Run). Leaves (list_part reads (x ∷ []) ms.list) (list_part reads [] list)) own.run (row-leaves ms.list reads r.id own.entry [] core.modules.list own.is) in
-    let last : Steps s.shape (state_with reads (r ∷ []) m s.words (runs_of new) ms.list) (state_of reads m s.words new) = record {
-      v = Modules (list_part reads (r ∷ []) ms.list) ∷ [];
-      w = Modules (list_part reads [] list) ∷ [];
-      row = leaves leave;
-      becomes = list_becomes reads m s.words (runs_of new) (r ∷ []) [] ms.list list.area;
-    } in
-    takes (takes_run move)
-    (own_becomes reads m s.words cpu (omega (arith, core.machine.hands, core.words)) (omega (arith, core.machine.hands)) (runs_of ms) (runs_of new) [] (r ∷ []) ms.list
-    (λ j apart. ap runs_in (inside_other ms cpu section None list j apart))) last
+    leaves_cpu (record {
+      mid = state_with reads (r ∷ []) m s.words (runs_of new) ms.list;
+      inside = own_part m s.words cpu (runs_of ms cpu);
+      outside = own_part m s.words cpu (runs_of new cpu);
+      before = list_part reads [] ms.list;
+      leaving = list_part reads (r ∷ []) ms.list;
+      after = list_part reads [] list;
+      takes = move;
+      takes_state = own_becomes reads m s.words cpu (omega (arith, core.machine.hands, core.words)) (omega (arith, core.machine.hands)) (runs_of ms) (runs_of new) [] (r ∷ []) ms.list
+          (λ j apart. ap runs_in (inside_other ms cpu section None list j apart));
+      leaves = row-leaves ms.list reads r.id own.entry r [] [] core.modules.list own.is (sym own.run);
+      leaves_state = list_becomes reads m s.words (runs_of new) (r ∷ []) [] ms.list list.area;
+      same_run = leaves_run ms.list reads r.id own.entry r [] [] core.modules.list own.is (sym own.run);
+    })
 
 -- a CPU goes out
 pub goes_out_row : (s : CoreState) → IsCore s → (cpu : ℕ) → cpu < s.shape.cpus → (section : ℕ) → section < length s.sections → leave_refusal (scene_at s.modules cpu) section ≡ None → hand_at s.machine cpu ≡ None

@@ -107,7 +107,7 @@ module _ (k : Shape) (checked : IsChecked k) (m : Machine) (words : List (List �
       record { row = subtracts_bytes row; safe = λ old new becomes. safe-subtracts_bytes k bytes r.h _ _ old new checked row becomes }))
   leads_step SubtractCall r = rw r.held (leads_cpu k m.hands words runs (tail_of m.places lists) cpu (without_call r.h) (lowered Calls r.h.tag.number 1 (words_at words cpu)) len below
       (let row : SubtractsCall r.h (cpu_part (0 + cpu) (hand_at m cpu) (words_at words cpu) (runs (0 + cpu))) (cpu_part (0 + cpu) (without_call r.h) (lowered Calls r.h.tag.number 1 (words_at words cpu)) (runs (0 + cpu))) =
-      record { held = r.held; settled = r.holds.settled; bytes_first = r.holds.bytes_first; after = refl } in
+      record { held = r.held; settled = r.holds.settled; some = r.holds.some; bytes_first = r.holds.bytes_first; after = refl } in
       record { row = subtracts_call row; safe = λ old new becomes. safe-subtracts_call k r.h _ _ old new checked row becomes }))
   leads_step (Write key will next) r =
       leads_place k m.hands words runs m.places lists cpu key next (words_at words cpu) will len below r.0

@@ -142,21 +142,26 @@ may_open_more (Some h) front run back e =
 
 pub safe-gives_run : (k : Shape) (old new : CpuPart) (from to : ListPart) (ps qs : List Part) → GivesRun old new from to → Becomes (Cpu old ∷ Modules from ∷ []) (Cpu new ∷ Modules to ∷ []) ps qs → Safe k ps → Safe k qs
 safe-gives_run k old new from to ps qs row steps safe =
-    base_kept k old (row.front ++ row.run ∷ row.back) old.notes from row.runs ps qs b
+    base_kept k old (row.front ++ row.run ∷ row.back) old.notes from (row.ahead ++ row.behind) ps qs b
     (record {
       may_open = may_open_more old.hand row.front row.run row.back (subst (λ xs. hand_may_open old.hand xs ≡ true) row.had (may_open_before k old from _ ps qs steps safe));
-      balance = λ test. rw row.away (omega (arith, sum_by-cons (λ (r : Run). cond {A = ℕ} (test r) 1 0) row.run row.runs, joined test));
+      balance = λ test. omega (arith, joined test, left_away test);
       one_run = λ id. one id (cases_eq row.run.id id);
       told = λ n h. inl h;
     }) safe
   where
-    b : Becomes (Cpu old ∷ Modules from ∷ []) (Cpu (moved_cpu old (row.front ++ row.run ∷ row.back) old.notes) ∷ Modules (moved_list from row.runs) ∷ []) ps qs
-    b = subst (λ y. Becomes (Cpu old ∷ Modules from ∷ []) (Cpu y ∷ Modules (moved_list from row.runs) ∷ []) ps qs) row.cpu (subst (λ y. Becomes (Cpu old ∷ Modules from ∷ []) (Cpu new ∷ Modules y ∷ []) ps qs) row.list steps)
+    b : Becomes (Cpu old ∷ Modules from ∷ []) (Cpu (moved_cpu old (row.front ++ row.run ∷ row.back) old.notes) ∷ Modules (moved_list from (row.ahead ++ row.behind)) ∷ []) ps qs
+    b = subst (λ y. Becomes (Cpu old ∷ Modules from ∷ []) (Cpu y ∷ Modules (moved_list from (row.ahead ++ row.behind)) ∷ []) ps qs) row.cpu (subst (λ y. Becomes (Cpu old ∷ Modules from ∷ []) (Cpu new ∷ Modules y ∷ []) ps qs) row.list steps)
 
     joined : (test : Run → Bool) → count_by test (row.front ++ row.run ∷ row.back) ≡ cond {A = ℕ} (test row.run) 1 0 + count_by test old.runs
     joined test =
         let had : count_by test old.runs ≡ count_by test (row.front ++ row.back) = ap (λ xs. count_by test xs) row.had in
         omega (arith, had, sum_at (λ (r : Run). cond {A = ℕ} (test r) 1 0) row.front row.run row.back, sum_by-append (λ (r : Run). cond {A = ℕ} (test r) 1 0) row.front row.back)
+
+    left_away : (test : Run → Bool) → count_by test from.away ≡ cond {A = ℕ} (test row.run) 1 0 + count_by test (row.ahead ++ row.behind)
+    left_away test =
+        let was : count_by test from.away ≡ count_by test (row.ahead ++ row.run ∷ row.behind) = ap (λ xs. count_by test xs) row.away in
+        omega (arith, was, sum_at (λ (r : Run). cond {A = ℕ} (test r) 1 0) row.ahead row.run row.behind, sum_by-append (λ (r : Run). cond {A = ℕ} (test r) 1 0) row.ahead row.behind)
 
     one : (id : ℕ) → (row.run.id ≡ id) ⊎ (row.run.id ≡ id → ⊥) → count_by (λ (r : Run). r.id == id) (row.front ++ row.run ∷ row.back) ≤ 1
     one id (inl e) =

@@ -2,7 +2,7 @@
 use Rattle.std.proofs.Common.{◌≡◌, ℕ, ◌+◌, ◌-◌, ◌<◌, ◌≤◌, ◌==◌, ◌&&◌, ◌⊎◌, nat_lt, nat_le, List, [], ◌∷◌, ◌++◌, sum_by, count_by, refl, sym, ap, ◌∙◌, subst, inl, inr, arith, Bool, true, false, not, cond, eqb-true, eq-eqb, if◌then◌else◌}
 use Rattle.std.specs.List.{list_all}
 use Rattle.std.proofs.lemmas.Bool.{and_parts, and_from, false≢true, cases_Bool, cases_lt}
-use Rattle.std.proofs.lemmas.List.Sums.{sum_by-cons}
+use Rattle.std.proofs.lemmas.List.Sums.{sum_by-append, sum_by-cons}
 use Rattle.tag_model.specs.declared.shape.Shape.{Shape}
 use Rattle.tag_model.specs.declared.state.Kind.TheVariants.{Bytes, Calls}
 use Rattle.tag_model.specs.declared.state.ListPart.{ListPart}
@@ -207,12 +207,15 @@ enters_moves entry was loaded = record {
         let none : cond {A = ℕ} (same_run run (run_on entry)) 1 0 ≡ 0 = rw e refl in
         inl (omega (arith, sum_by-cons (λ (r : Run). cond {A = ℕ} (same_run run r) 1 0) (run_on entry) was))
 
-leaves_moves : (entry : Record) (runs : List Run) → 0 < entry.users → UsersMove entry (entry.users - 1) (run_on entry ∷ runs) runs
-leaves_moves entry runs some = record {
-  balance = λ id. omega (arith, sum_by-cons (λ (r : Run). cond {A = ℕ} (r.id == id) 1 0) (run_on entry) runs, one_less (entry.id == id));
-  of_entry = λ run h. inl (omega (arith, sum_by-cons (λ (r : Run). cond {A = ℕ} (same_run run r) 1 0) (run_on entry) runs));
+leaves_moves : (entry : Record) (ahead behind : List Run) → 0 < entry.users → UsersMove entry (entry.users - 1) (ahead ++ run_on entry ∷ behind) (ahead ++ behind)
+leaves_moves entry ahead behind some = record {
+  balance = λ id. omega (arith, split (λ (r : Run). r.id == id), one_less (entry.id == id));
+  of_entry = λ run h. inl (omega (arith, split (same_run run)));
 }
   where
+    split : (test : Run → Bool) → count_by test (ahead ++ run_on entry ∷ behind) ≡ cond {A = ℕ} (test (run_on entry)) 1 0 + count_by test (ahead ++ behind)
+    split test = omega (arith, sum_at (λ (r : Run). cond {A = ℕ} (test r) 1 0) ahead (run_on entry) behind, sum_by-append (λ (r : Run). cond {A = ℕ} (test r) 1 0) ahead behind)
+
     one_less : (b : Bool) → cond {A = ℕ} b entry.users 0 ≡ cond b 1 0 + cond b (entry.users - 1) 0
     one_less true = omega arith
     one_less false = refl
@@ -226,13 +229,13 @@ safe-enters k old new ps qs checked row steps safe =
 
 pub safe-leaves : (k : Shape) (old new : ListPart) (ps qs : List Part) → IsChecked k → Leaves old new → Becomes (Modules old ∷ []) (Modules new ∷ []) ps qs → Safe k ps → Safe k qs
 safe-leaves k old new ps qs checked row steps safe =
-    users_kept k old row.front row.entry row.back (row.entry.users - 1) (run_on row.entry ∷ row.runs) row.runs ps qs b (leaves_moves row.entry row.runs some) safe
+    users_kept k old row.front row.entry row.back (row.entry.users - 1) (row.ahead ++ run_on row.entry ∷ row.behind) (row.ahead ++ row.behind) ps qs b (leaves_moves row.entry row.ahead row.behind some) safe
   where
     o : ListPart
-    o = entered old row.front row.entry row.back (run_on row.entry ∷ row.runs)
+    o = entered old row.front row.entry row.back (row.ahead ++ run_on row.entry ∷ row.behind)
 
     n : ListPart
-    n = entered old row.front (record row.entry { users = row.entry.users - 1 }) row.back row.runs
+    n = entered old row.front (record row.entry { users = row.entry.users - 1 }) row.back (row.ahead ++ row.behind)
 
     b : Becomes (Modules o ∷ []) (Modules n ∷ []) ps qs
     b = subst (λ y. Becomes (Modules y ∷ []) (Modules n ∷ []) ps qs) (λ i. record old { records = row.there i; away = row.running i }) (subst (λ y. Becomes (Modules old ∷ []) (Modules y ∷ []) ps qs) row.after steps)
@@ -248,7 +251,7 @@ safe-leaves k old new ps qs checked row steps safe =
           arith,
           safe.cover.users row.entry.id,
           b.before (runs_with (λ r. r.id == row.entry.id)),
-          sum_by-cons (λ (r : Run). cond {A = ℕ} (r.id == row.entry.id) 1 0) (run_on row.entry) row.runs,
+          sum_at (λ (r : Run). cond {A = ℕ} (r.id == row.entry.id) 1 0) row.ahead (run_on row.entry) row.behind,
           s.before.only (users_of row.entry.id) (of_users row.entry.id),
           field_here (λ r. r.users) row.front row.entry row.back row.entry.id refl (s.laws.apart row.entry.id),
         )

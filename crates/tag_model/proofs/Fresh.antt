@@ -74,7 +74,8 @@ record FreshList (l : ListPart) : Type 0 where
 
 fresh_list : (k : Shape) (l : ListPart) → is_fresh k (Modules l) ≡ true → FreshList l
 fresh_list k l e =
-    let f = and_parts ((length l.records == 0) && (length l.away == 0)) (is_idle l.sweep) e in
+    let s = and_parts ((length l.records == 0) && (length l.away == 0) && is_idle l.sweep) (length l.stops == 0) e in
+    let f = and_parts ((length l.records == 0) && (length l.away == 0)) (is_idle l.sweep) s.0 in
     let g = and_parts (length l.records == 0) (length l.away == 0) f.0 in
     record { records = empty l.records g.0; away = empty l.away g.1; sweep = no_sweep l.sweep f.1 }
 
@@ -149,7 +150,7 @@ fresh_fits : (k : Shape) (p : Part) → is_fresh k p ≡ true → one_if (not (p
 fresh_fits k (Cpu c) e = let f = fresh_cpu k c e in rw (f.number, f.long, f.hand) refl
 fresh_fits k (Place n h) e = rw (nothing_held h e) refl
 fresh_fits k (Modules l) e = rw (fresh_list k l e).records refl
-fresh_fits k (NextId id) e = fails_none (nat_lt 0 id) e
+fresh_fits k (NextId id) e = rw (eqb-true id 1 e) refl
 
 fresh_list_fits : (k : Shape) (p : Part) → is_fresh k p ≡ true → one_if (not (list_fits k p)) ≡ 0
 fresh_list_fits k (Cpu c) e = refl

@@ -7,7 +7,19 @@ use Rattle.tag_model.specs.declared.state.ListPart.{ListPart}
 use Rattle.tag_model.specs.declared.state.Part.{Part}
 use Rattle.tag_model.specs.declared.state.Part.TheVariants.{Cpu, Place, Modules, NextId}
 use Rattle.tag_model.specs.WordState.{one_if, Every, is_list}
-use Rattle.tag_model.specs.StepRules.{Becomes}
+use Rattle.tag_model.specs.StepRules.{Becomes, Stands}
+
+-- parts that stand in a state, as parts that become themselves
+pub standing : (v ps : List Part) → Stands v ps → Becomes v v ps ps
+standing v ps s = record { rest = s.rest; before = s.among; after = s.among }
+
+-- parts that become others stood in the state
+pub stand_before : (v w ps qs : List Part) → Becomes v w ps qs → Stands v ps
+stand_before v w ps qs b = record { rest = b.rest; among = b.before }
+
+-- and the others stand there afterwards
+pub stand_after : (v w ps qs : List Part) → Becomes v w ps qs → Stands w qs
+stand_after v w ps qs b = record { rest = b.rest; among = b.after }
 
 -- a number that the touched parts share before and after is the state's before and after
 pub becomes_same : (f : Part → ℕ) (v w ps qs : List Part) → Becomes v w ps qs → sum_by f v ≡ sum_by f w → sum_by f qs ≡ sum_by f ps

@@ -39,5 +39,5 @@ base_move_is_safe k v w ps qs (BaseMove.notes_record {old} {new} {list} r) b saf
 
 pub safe-steps_with : (k : Shape) (ps qs : List Part) → IsChecked k → StepsWith k ps qs → Safe k ps → Safe k qs
 safe-steps_with k ps qs ok (StepsWith.alone s) safe = step_is_safe k ps qs ok s safe
-safe-steps_with k ps qs ok (StepsWith.gives {mid} {v} {w} s move b) safe = base_move_is_safe k v w mid qs move b (step_is_safe k ps mid ok s safe)
-safe-steps_with k ps qs ok (StepsWith.takes {mid} {v} {w} move b s) safe = step_is_safe k mid qs ok s (base_move_is_safe k v w ps mid move b safe)
+safe-steps_with k ps qs ok (StepsWith.enters_cpu s) safe = safe-gives_run k s.outside s.inside s.entered s.after s.mid qs s.gives s.gives_state (safe-enters k s.before s.entered ps s.mid ok s.enters s.enters_state safe)
+safe-steps_with k ps qs ok (StepsWith.leaves_cpu s) safe = safe-leaves k s.leaving s.after s.mid qs ok s.leaves s.leaves_state (safe-takes_run k s.inside s.outside s.before s.leaving ps s.mid s.takes s.takes_state safe)

@@ -39,8 +39,8 @@ history_safe k first (next ∷ later) ok h safe = history_safe k next later ok h
 
 base_still : (k : Shape) (kind : Kind) (t : ℕ) (v w ps qs : List Part) → BaseMove v w → Becomes v w ps qs → Safe k ps → Still kind t ps → Still kind t qs
 base_still k kind t v w ps qs (BaseMove.gives_run {old} {new} {from} {to} r) b safe s =
-    let moved = subst (λ y. Becomes (Cpu old ∷ Modules from ∷ []) (Cpu y ∷ Modules (record from { away = r.runs }) ∷ []) ps qs) r.cpu (subst (λ y. Becomes (Cpu old ∷ Modules from ∷ []) (Cpu new ∷ Modules y ∷ []) ps qs) r.list b) in
-    still_stays k kind t ps qs safe (quiet_stays kind t (Cpu old ∷ Modules from ∷ []) (Cpu (record old { runs = r.front ++ r.run ∷ r.back }) ∷ Modules (record from { away = r.runs }) ∷ []) ps qs moved (omega arith) (λ f. refl) refl (λ i. refl)) s
+    let moved = subst (λ y. Becomes (Cpu old ∷ Modules from ∷ []) (Cpu y ∷ Modules (record from { away = r.ahead ++ r.behind }) ∷ []) ps qs) r.cpu (subst (λ y. Becomes (Cpu old ∷ Modules from ∷ []) (Cpu new ∷ Modules y ∷ []) ps qs) r.list b) in
+    still_stays k kind t ps qs safe (quiet_stays kind t (Cpu old ∷ Modules from ∷ []) (Cpu (record old { runs = r.front ++ r.run ∷ r.back }) ∷ Modules (record from { away = r.ahead ++ r.behind }) ∷ []) ps qs moved (omega arith) (λ f. refl) refl (λ i. refl)) s
 base_still k kind t v w ps qs (BaseMove.takes_run {old} {new} {from} {to} r) b safe s =
     let moved = subst (λ y. Becomes (Cpu old ∷ Modules from ∷ []) (Cpu y ∷ Modules (record from { away = r.run ∷ from.away }) ∷ []) ps qs) r.cpu (subst (λ y. Becomes (Cpu old ∷ Modules from ∷ []) (Cpu new ∷ Modules y ∷ []) ps qs) r.list b) in
     still_stays k kind t ps qs safe (quiet_stays kind t (Cpu old ∷ Modules from ∷ []) (Cpu (record old { runs = r.front ++ r.back }) ∷ Modules (record from { away = r.run ∷ from.away }) ∷ []) ps qs moved (omega arith) (λ f. refl) refl (λ i. refl)) s
@@ -149,7 +149,7 @@ row_no_stop k kind t v w ps qs (Row.releases {left} {id} {old} {new} r) b safe s
 
 base_no_stop : (kind : Kind) (t : ℕ) (v w ps qs : List Part) → BaseMove v w → Becomes v w ps qs → sum_by (stops_at kind t) ps < sum_by (stops_at kind t) qs → ⊥
 base_no_stop kind t v w ps qs (BaseMove.gives_run {old} {new} {from} {to} r) b more =
-    no_more kind t (Cpu old ∷ Modules from ∷ []) (Cpu new ∷ Modules (record from { away = r.runs }) ∷ []) ps qs (subst (λ y. Becomes (Cpu old ∷ Modules from ∷ []) (Cpu new ∷ Modules y ∷ []) ps qs) r.list b) (omega arith) more
+    no_more kind t (Cpu old ∷ Modules from ∷ []) (Cpu new ∷ Modules (record from { away = r.ahead ++ r.behind }) ∷ []) ps qs (subst (λ y. Becomes (Cpu old ∷ Modules from ∷ []) (Cpu new ∷ Modules y ∷ []) ps qs) r.list b) (omega arith) more
 base_no_stop kind t v w ps qs (BaseMove.takes_run {old} {new} {from} {to} r) b more =
     no_more kind t (Cpu old ∷ Modules from ∷ []) (Cpu new ∷ Modules (record from { away = r.run ∷ from.away }) ∷ []) ps qs (subst (λ y. Becomes (Cpu old ∷ Modules from ∷ []) (Cpu new ∷ Modules y ∷ []) ps qs) r.list b) (omega arith) more
 base_no_stop kind t v w ps qs (BaseMove.notes_record {old} {new} {list} r) b more = no_more kind t (Cpu old ∷ Modules list ∷ []) (Cpu new ∷ Modules list ∷ []) ps qs b (omega arith) more

@@ -204,7 +204,7 @@ row_still k kind t v w ps qs ok (Row.leaves {old} {new} r) b safe after none s =
     let changed : Record = record r.entry { users = r.entry.users - 1 } in
     let moved = subst (λ y. Becomes (Modules old ∷ []) (Modules y ∷ []) ps qs) r.after b in
     still_stays k kind t ps qs safe
-    (quiet_stays kind t (Modules old ∷ []) (Modules (record old { records = r.front ++ changed ∷ r.back; away = r.runs }) ∷ []) ps qs moved
+    (quiet_stays kind t (Modules old ∷ []) (Modules (record old { records = r.front ++ changed ∷ r.back; away = r.ahead ++ r.behind }) ∷ []) ps qs moved
     (omega (arith, count_swap (dead_at t) r.front r.entry changed r.back refl, ap (λ xs. count_by (dead_at t) xs) r.there)) (λ f. refl) refl (λ i. refl)) s
 row_still k kind t v w ps qs ok (Row.marks_dead {old} {new} r) b safe after none s = cc
 row_still k kind t v w ps qs ok (Row.sweeps {old} {new} r) b safe after none s = cc

@@ -216,10 +216,10 @@ is_idle sweep.None = true
 is_idle (sweep.Done left) = false
 is_idle (sweep.Reading left reader) = false
 
--- words of 0, no hand, run or note; no place that holds something; no record and no sweep
+-- words of 0, no hand, run or note; no place that holds something; no record, no sweep and no stop; the first id is 1
 abbrev pub is_fresh : Shape → Part → Bool
 is_fresh k (Cpu c) =
     nat_lt c.number k.cpus && (length c.words == 2 * k.tags) && list_all (λ w. w == 0) c.words && (hand_number c.hand == 0) && (length c.runs == 0) && (length c.notes == 0)
 is_fresh k (Place number held) = not (is_held held)
-is_fresh k (Modules l) = (length l.records == 0) && (length l.away == 0) && is_idle l.sweep
-is_fresh k (NextId id) = nat_lt 0 id
+is_fresh k (Modules l) = (length l.records == 0) && (length l.away == 0) && is_idle l.sweep && (length l.stops == 0)
+is_fresh k (NextId id) = id == 1

@@ -73,6 +73,7 @@ without_call hand = if hand.calls == 1 then None else Some (record hand { calls 
 pub record SubtractsCall (hand : Hand) (old new : CpuPart) : Type 0 where
   pub held : old.hand ≡ Some hand
   pub settled : hand.opening ≡ false
+  pub some : 0 < hand.calls
   pub bytes_first : hand.calls ≡ 1 → hand.bytes ≡ 0
   pub after : new ≡ record old { words = lowered Calls hand.tag.number 1 old.words; hand = without_call hand }
 
@@ -164,15 +165,16 @@ pub record Enters (old new : ListPart) : Type 0 where
   pub loaded : entry.dead ≡ false
   pub after : new ≡ record old { records = front ++ record entry { users = entry.users + 1 } ∷ back; away = run_on entry ∷ old.away }
 
--- leave: a run on a record ends, and the record has a user less
+-- leave: a run on a record, anywhere among those on their way, ends, and the record has a user less
 pub record Leaves (old new : ListPart) : Type 0 where
   pub front : List Record
   pub entry : Record
   pub back : List Record
-  pub runs : List Run
+  pub ahead : List Run
+  pub behind : List Run
   pub there : old.records ≡ front ++ entry ∷ back
-  pub running : old.away ≡ run_on entry ∷ runs
-  pub after : new ≡ record old { records = front ++ record entry { users = entry.users - 1 } ∷ back; away = runs }
+  pub running : old.away ≡ ahead ++ run_on entry ∷ behind
+  pub after : new ≡ record old { records = front ++ record entry { users = entry.users - 1 } ∷ back; away = ahead ++ behind }
 
 -- mark dead: a loaded record with no users is dead, and a sweep of it alone begins
 pub record MarksDead (old new : ListPart) : Type 0 where
@@ -197,17 +199,18 @@ pub record Releases (left : List ℕ) (id : ℕ) (old new : ListPart) : Type 0 w
 
 -- ---- base moves, which change no word, no place, no record and no sweep
 
--- a run goes to a CPU that has none on its record, and stands anywhere among the CPU's runs
+-- a run, anywhere among those on their way, goes to a CPU that has none on its record, and stands anywhere among the CPU's runs
 pub record GivesRun (old new : CpuPart) (from to : ListPart) : Type 0 where
   pub front : List Run
   pub run : Run
   pub back : List Run
-  pub runs : List Run
-  pub away : from.away ≡ run ∷ runs
+  pub ahead : List Run
+  pub behind : List Run
+  pub away : from.away ≡ ahead ++ run ∷ behind
   pub first : count_by (λ (r : Run). r.id == run.id) old.runs ≡ 0
   pub had : old.runs ≡ front ++ back
   pub cpu : new ≡ record old { runs = front ++ run ∷ back }
-  pub list : to ≡ record from { away = runs }
+  pub list : to ≡ record from { away = ahead ++ behind }
 
 -- a run leaves a CPU that is between no allocation's steps
 pub record TakesRun (old new : CpuPart) (from to : ListPart) : Type 0 where
@@ -262,8 +265,41 @@ pub record Steps (k : Shape) (old new : List Part) : Type 0 where
   pub row : Row k v w
   pub becomes : Becomes v w old new
 
--- one step of the step rules, with the base move that may go with it: a run comes to a CPU after an enter, or leaves it before a leave
+-- these parts stand among the parts of the state
+pub record Stands (v parts : List Part) : Type 0 where
+  pub rest : List Part
+  pub among : (weight : Part → ℕ) → sum_by weight parts ≡ sum_by weight rest + sum_by weight v
+
+-- an enter, and the CPU gets the very run that it put on its way
+pub record EntersCpu (old new : List Part) : Type 0 where
+  pub mid : List Part
+  pub outside : CpuPart
+  pub inside : CpuPart
+  pub before : ListPart
+  pub entered : ListPart
+  pub after : ListPart
+  pub enters : Enters before entered
+  pub enters_state : Becomes (Modules before ∷ []) (Modules entered ∷ []) old mid
+  pub gives : GivesRun outside inside entered after
+  pub gives_state : Becomes (Cpu outside ∷ Modules entered ∷ []) (Cpu inside ∷ Modules after ∷ []) mid new
+  pub same_run : gives.run ≡ run_on enters.entry
+
+-- a run leaves the CPU, and a leave ends that very run
+pub record LeavesCpu (old new : List Part) : Type 0 where
+  pub mid : List Part
+  pub inside : CpuPart
+  pub outside : CpuPart
+  pub before : ListPart
+  pub leaving : ListPart
+  pub after : ListPart
+  pub takes : TakesRun inside outside before leaving
+  pub takes_state : Becomes (Cpu inside ∷ Modules before ∷ []) (Cpu outside ∷ Modules leaving ∷ []) old mid
+  pub leaves : Leaves leaving after
+  pub leaves_state : Becomes (Modules leaving ∷ []) (Modules after ∷ []) mid new
+  pub same_run : takes.run ≡ run_on leaves.entry
+
+-- one step of the step rules, with the base move that may go with it: a run comes to a CPU after its enter, or leaves it before its leave
 pub data StepsWith (k : Shape) (old new : List Part) : Type 0 where
   alone : Steps k old new → StepsWith k old new
-  gives : {mid v w : List Part} → Steps k old mid → BaseMove v w → Becomes v w mid new → StepsWith k old new
-  takes : {mid v w : List Part} → BaseMove v w → Becomes v w old mid → Steps k mid new → StepsWith k old new
+  enters_cpu : EntersCpu old new → StepsWith k old new
+  leaves_cpu : LeavesCpu old new → StepsWith k old new

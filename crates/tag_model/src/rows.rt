@@ -14,6 +14,7 @@ ghost use Rattle.tag_model.specs.StepRules.{
   Becomes,
   BeginsAllocation,
   Releases,
+  Stands,
   Steps,
   StepsWith,
   SubtractsBytes,
@@ -108,10 +109,10 @@ pub fn safe_in_any_order()
 /// record's users are the runs on it; the CPU has at most one run on an id; the records stand by rising id, each below
 /// the next one that is given, and the sweep is in its bounds; the hand's tag is one of the shape's.
 pub fn a_safe_state_tells()
-    ensures run_is_loaded { (k : Shape) (c : CpuPart) (l : ListPart) (parts : List Part) (front : List Run) (run : Run) (back : List Run) → Becomes (Cpu c ∷ Modules l ∷ []) (Cpu c ∷ Modules l ∷ []) parts parts → Safe k parts → c.runs ≡ front ++ run ∷ back → IsTrue (list_any (is_loaded_as run) l.records) }
-    ensures users_are_runs { (k : Shape) (c : CpuPart) (l : ListPart) (parts : List Part) (id : ℕ) → Becomes (Cpu c ∷ Modules l ∷ []) (Cpu c ∷ Modules l ∷ []) parts parts → Safe k parts → sum_by (runs_with (λ r. r.id == id)) parts ≡ users_of id (Modules l) }
-    ensures one_run_each { (k : Shape) (c : CpuPart) (l : ListPart) (parts : List Part) (id : ℕ) → Becomes (Cpu c ∷ Modules l ∷ []) (Cpu c ∷ Modules l ∷ []) parts parts → Safe k parts → count_by (λ (r : Run). r.id == id) c.runs ≤ 1 }
-    ensures sweep_in_bounds { (k : Shape) (c : CpuPart) (l : ListPart) (parts : List Part) → Becomes (Cpu c ∷ Modules l ∷ []) (Cpu c ∷ Modules l ∷ []) parts parts → Safe k parts → IsTrue (sweep_fits k l.sweep l.records) × IsTrue (rises_from 0 (ids_of l.records)) }
-    ensures ids_below { (k : Shape) (c : CpuPart) (l : ListPart) (parts : List Part) → Becomes (Cpu c ∷ Modules l ∷ []) (Cpu c ∷ Modules l ∷ []) parts parts → Safe k parts → IsTrue (list_all (λ (r : Record). nat_lt r.id (sum_by next_id parts)) l.records) }
-    ensures hand_in_tags { (k : Shape) (c : CpuPart) (l : ListPart) (parts : List Part) (hand : Hand) → IsChecked k → Becomes (Cpu c ∷ Modules l ∷ []) (Cpu c ∷ Modules l ∷ []) parts parts → Safe k parts → c.hand ≡ Some hand → hand.tag.number < k.tags }
+    ensures run_is_loaded { (k : Shape) (c : CpuPart) (l : ListPart) (parts : List Part) (front : List Run) (run : Run) (back : List Run) → Stands (Cpu c ∷ Modules l ∷ []) parts → Safe k parts → c.runs ≡ front ++ run ∷ back → IsTrue (list_any (is_loaded_as run) l.records) }
+    ensures users_are_runs { (k : Shape) (c : CpuPart) (l : ListPart) (parts : List Part) (id : ℕ) → Stands (Cpu c ∷ Modules l ∷ []) parts → Safe k parts → sum_by (runs_with (λ r. r.id == id)) parts ≡ users_of id (Modules l) }
+    ensures one_run_each { (k : Shape) (c : CpuPart) (l : ListPart) (parts : List Part) (id : ℕ) → Stands (Cpu c ∷ Modules l ∷ []) parts → Safe k parts → count_by (λ (r : Run). r.id == id) c.runs ≤ 1 }
+    ensures sweep_in_bounds { (k : Shape) (c : CpuPart) (l : ListPart) (parts : List Part) → Stands (Cpu c ∷ Modules l ∷ []) parts → Safe k parts → IsTrue (sweep_fits k l.sweep l.records) × IsTrue (rises_from 0 (ids_of l.records)) }
+    ensures ids_below { (k : Shape) (c : CpuPart) (l : ListPart) (parts : List Part) → Stands (Cpu c ∷ Modules l ∷ []) parts → Safe k parts → IsTrue (list_all (λ (r : Record). nat_lt r.id (sum_by next_id parts)) l.records) }
+    ensures hand_in_tags { (k : Shape) (c : CpuPart) (l : ListPart) (parts : List Part) (hand : Hand) → IsChecked k → Stands (Cpu c ∷ Modules l ∷ []) parts → Safe k parts → c.hand ≡ Some hand → hand.tag.number < k.tags }
 {}

@@ -1,3 +1,5 @@
+use Rattle.std.proofs.Common.{refl}
+use Rattle.core_list.specs.ListState.{run_of}
 use Rattle.core_list.proofs.Changes.{row-enters, row-leaves, row-loads, row-marks_dead, row-scans, row-releases}
 use Rattle.core_list.proofs.rows.changes_are_rows.Goals as goal
 
@@ -5,7 +7,7 @@ pub returns-clause-enters : goal.returns-clause-enters
 returns-clause-enters c l n id e away ok found loaded = row-enters l n id e away ok found loaded
 
 pub returns-clause-leaves : goal.returns-clause-leaves
-returns-clause-leaves c l n id e away ok found = row-leaves l n id e away ok found
+returns-clause-leaves c l n id e ahead behind ok found = row-leaves l n id e (run_of e) ahead behind ok found refl
 
 pub returns-clause-loads : goal.returns-clause-loads
 returns-clause-loads c k l n section size away ok low high some none = row-loads k l n section size away ok low high some none
