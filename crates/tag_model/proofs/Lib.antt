@@ -28,3 +28,6 @@ pub mod Swept
 pub mod Told
 pub mod Words
 mod Slots
+mod LiveLists
+mod OpMoves
+mod MovedWords

@@ -8,3 +8,5 @@ pub mod Histories
 pub mod Moves
 pub mod RefWord
 pub mod Index
+pub mod RefMoves
+pub mod ListMachine

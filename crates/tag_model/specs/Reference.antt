@@ -56,5 +56,5 @@ is_settled None = true
 is_settled (Some h) = not h.opening
 
 -- The live list: places with what they hold, no place twice and none that holds nothing. The bytes and the calls under a tag.
-abbrev pub live_total : Kind → ℕ → List (ℕ × Held) → ℕ
-live_total kind t live = sum_by (λ (entry : ℕ × Held). held_counts kind t entry.1) live
+abbrev pub live_total : {P : Type 0} → Kind → ℕ → List (P × Held) → ℕ
+live_total {P} kind t live = sum_by (λ (entry : P × Held). held_counts kind t entry.1) live

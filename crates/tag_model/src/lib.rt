@@ -5,6 +5,7 @@
 
 pub mod index;
 pub mod limits;
+pub mod list_machine;
 pub mod ref_word;
 pub mod rows;
 pub mod shape;
