@@ -15,7 +15,7 @@ use Rattle.tag_model.specs.declared.state.Sweep.{Sweep}
 use Rattle.tag_model.specs.declared.state.Tag.{Tag}
 use Rattle.tag_model.specs.Laws.{Safe, CoverLaw, IsCovered, is_loaded_as, same_run, same_note, contradicts, runs_of_cpu, rises_from, ids_of}
 use Rattle.tag_model.specs.Shape.{IsChecked}
-use Rattle.tag_model.specs.StepRules.{Sweeps, Enters, Leaves, Becomes, begins_pass, dead_ids, run_on}
+use Rattle.tag_model.specs.StepRules.{Sweeps, Enters, Leaves, ReordersRuns, Becomes, begins_pass, dead_ids, run_on}
 use Rattle.tag_model.specs.WordState.{one_if, Every, word_of, word_from, counted, counted_of, in_range, records_with, runs_with, notes_with, users_of, next_id, record_fits, part_fits}
 use Rattle.tag_model.proofs.Alike.{AlikeBook, book_after, cover_alike, of_users}
 use Rattle.tag_model.proofs.Found.{fails_none, sum_at, count_at}
@@ -98,6 +98,23 @@ pub safe-reads : (k : Shape) (l : ListPart) (reads : ℕ) (ps qs : List Part) �
 safe-reads k l reads ps qs b safe =
     let s = list_step k l (record l { reads = reads }) ps qs b safe in
     sweep_kept k l l.sweep l.stops reads ps qs s s.sweep
+
+-- ---- the runs on their way change their order
+
+pub safe-reorders_runs : (k : Shape) (old new : ListPart) (ps qs : List Part) → ReordersRuns old new → Becomes (Modules old ∷ []) (Modules new ∷ []) ps qs → Safe k ps → Safe k qs
+safe-reorders_runs k old new ps qs row steps safe =
+    list_kept k old m ps qs s s.laws.records_fit s.laws.rise
+    (cover_alike k ps qs (book_after (Modules old ∷ []) (Modules m ∷ []) ps qs alike s.becomes) safe.cover (λ tag h. safe.cover.named tag (omega (arith, becomes_same (counted_of Calls tag) (Modules old ∷ []) (Modules m ∷ []) ps qs s.becomes refl))))
+    s.sweep
+  where
+    m : ListPart
+    m = record old { away = new.away }
+
+    s : ListStep k old m ps qs
+    s = list_step k old m ps qs (subst (λ y. Becomes (Modules old ∷ []) (Modules y ∷ []) ps qs) row.after steps) safe
+
+    alike : AlikeBook (Modules old ∷ []) (Modules m ∷ [])
+    alike = record { cpus = λ n. refl; pass = refl; places = λ n. refl; few_places = refl; runs = λ test. omega (arith, row.same test); notes = λ test. refl; next = refl; one_run = λ id. refl; list = refl; records = λ test. refl; users = λ id. refl; high = λ next. refl }
 
 -- ---- one record changes
 

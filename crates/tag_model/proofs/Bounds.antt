@@ -39,7 +39,7 @@ cpu_below n (Place m h) = 0
 cpu_below n (Modules l) = 0
 cpu_below n (NextId id) = 0
 
-some_cpu : Part → ℕ
+abbrev pub some_cpu : Part → ℕ
 some_cpu (Cpu c) = 1
 some_cpu (Place n h) = 0
 some_cpu (Modules l) = 0
@@ -78,7 +78,7 @@ below_few zero ps h = omega (arith, sum_nothing (cpu_below 0) ps below_none_at)
 below_few (suc n) ps h = omega (arith, sum_two (cpu_below (suc n)) (cpu_below n) (is_cpu n) ps (below_more_at n), below_few n ps (λ m e. h m (omega arith)), h n (omega arith))
 
 cpu_within_at : (k : Shape) (p : Part) → part_fits k p ≡ true → some_cpu p ≤ cpu_below k.cpus p
-unfolding cpu_below some_cpu
+unfolding cpu_below
 cpu_within_at k (Cpu c) e = rw (cpu_fits_means k c e).number (omega arith)
 cpu_within_at k (Place m h) e = omega arith
 cpu_within_at k (Modules l) e = omega arith
@@ -88,7 +88,7 @@ cpus_within : (k : Shape) (ps : List Part) → Every (part_fits k) ps → sum_by
 cpus_within k [] e = omega arith
 cpus_within k (p ∷ ps) e = omega (arith, sum_by-cons some_cpu p ps, sum_by-cons (cpu_below k.cpus) p ps, cpu_within_at k p (every_first (part_fits k) p ps e), cpus_within k ps (every_rest (part_fits k) p ps e))
 
-few_cpus : (k : Shape) (ps : List Part) → OneOfEach k ps → Every (part_fits k) ps → sum_by some_cpu ps ≤ k.cpus
+pub few_cpus : (k : Shape) (ps : List Part) → OneOfEach k ps → Every (part_fits k) ps → sum_by some_cpu ps ≤ k.cpus
 few_cpus k ps each fits = omega (arith, cpus_within k ps fits, below_few k.cpus ps (λ m e. omega (arith, each.cpus m e)))
 
 -- ---- each hand and each place counts less than 2^44
@@ -109,7 +109,6 @@ held_small Bytes t (held.Counted tag size) e = omega (arith, at_most (tag.number
 held_small Calls t (held.Counted tag size) e = omega (arith, at_most (tag.number == t) 1)
 
 part_small : (k : Shape) (kind : Kind) (t : ℕ) (p : Part) → part_fits k p ≡ true → counted kind t p ≤ 2 ^ 44 * is_place p + 2 ^ 44 * some_cpu p
-unfolding some_cpu
 part_small k kind t (Cpu c) e = omega (arith, hand_small kind t c.hand (cpu_fits_means k c e).hand)
 part_small k kind t (Place n h) e = omega (arith, held_small kind t h e)
 part_small k kind t (Modules l) e = omega arith

@@ -23,7 +23,6 @@ use Rattle.tag_model.specs.declared.state.Tag.{Tag}
 use Rattle.tag_model.specs.Laws.{Safe, OneOfEach, is_fresh, hand_number, is_held, is_idle, runs_of_cpu, cleared, of_reader, is_reading, same_kind, list_fits, same_run, same_note, contradicts}
 use Rattle.tag_model.specs.WordState.{one_if, Every, word_place, word_of, counted, counted_of, in_range, records_with, runs_with, notes_with, users_of, part_fits}
 use Rattle.tag_model.proofs.Bounds.{every_first, every_rest}
-use Rattle.tag_model.proofs.Found.{fails_none}
 
 -- a list that is as long as 0 is empty
 empty : {X : Type 0} (xs : List X) → (length xs == 0) ≡ true → xs ≡ []

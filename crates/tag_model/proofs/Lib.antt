@@ -9,7 +9,11 @@ pub mod Found
 pub mod Fresh
 pub mod Ids
 pub mod ListRows
+pub mod Lent
 pub mod Lists
+pub mod ListTells
+pub mod PartTells
+pub mod NobodysWords
 pub mod Live
 pub mod LoadRow
 pub mod Moved

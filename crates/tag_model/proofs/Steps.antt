@@ -6,7 +6,7 @@ use Rattle.tag_model.specs.Laws.{Safe}
 use Rattle.tag_model.specs.Shape.{IsChecked}
 use Rattle.tag_model.specs.StepRules.{Row, BaseMove, Becomes, Steps, StepsWith}
 use Rattle.tag_model.proofs.BaseMoves.{safe-gives_run, safe-takes_run, safe-notes_record}
-use Rattle.tag_model.proofs.BookRows.{safe-sweeps, safe-enters, safe-leaves}
+use Rattle.tag_model.proofs.BookRows.{safe-sweeps, safe-enters, safe-leaves, safe-reorders_runs}
 use Rattle.tag_model.proofs.CpuRows.{safe-begins_allocation, safe-adds_bytes, safe-adds_call, safe-subtracts_bytes, safe-subtracts_call}
 use Rattle.tag_model.proofs.DeadRow.{safe-marks_dead}
 use Rattle.tag_model.proofs.LoadRow.{safe-loads}
@@ -36,6 +36,7 @@ pub base_move_is_safe : (k : Shape) (v w ps qs : List Part) → BaseMove v w →
 base_move_is_safe k v w ps qs (BaseMove.gives_run {old} {new} {from} {to} r) b safe = safe-gives_run k old new from to ps qs r b safe
 base_move_is_safe k v w ps qs (BaseMove.takes_run {old} {new} {from} {to} r) b safe = safe-takes_run k old new from to ps qs r b safe
 base_move_is_safe k v w ps qs (BaseMove.notes_record {old} {new} {list} r) b safe = safe-notes_record k old new list ps qs r b safe
+base_move_is_safe k v w ps qs (BaseMove.reorders_runs {old} {new} r) b safe = safe-reorders_runs k old new ps qs r b safe
 
 pub safe-steps_with : (k : Shape) (ps qs : List Part) → IsChecked k → StepsWith k ps qs → Safe k ps → Safe k qs
 safe-steps_with k ps qs ok (StepsWith.alone s) safe = step_is_safe k ps qs ok s safe

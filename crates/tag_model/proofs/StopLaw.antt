@@ -47,6 +47,9 @@ base_still k kind t v w ps qs (BaseMove.takes_run {old} {new} {from} {to} r) b s
 base_still k kind t v w ps qs (BaseMove.notes_record {old} {new} {list} r) b safe s =
     let moved = subst (λ y. Becomes (Cpu old ∷ Modules list ∷ []) (Cpu y ∷ Modules list ∷ []) ps qs) r.after b in
     still_stays k kind t ps qs safe (quiet_stays kind t (Cpu old ∷ Modules list ∷ []) (Cpu (record old { notes = record { id = r.entry.id; section = r.entry.section; start = r.entry.start; length = r.entry.length; seen_dead = r.entry.dead } ∷ old.notes }) ∷ Modules list ∷ []) ps qs moved (omega arith) (λ f. refl) refl (λ i. refl)) s
+base_still k kind t v w ps qs (BaseMove.reorders_runs {old} {new} r) b safe s =
+    let moved = subst (λ y. Becomes (Modules old ∷ []) (Modules y ∷ []) ps qs) r.after b in
+    still_stays k kind t ps qs safe (quiet_stays kind t (Modules old ∷ []) (Modules (record old { away = new.away }) ∷ []) ps qs moved (omega arith) (λ f. refl) refl (λ i. refl)) s
 
 leads_still : (k : Shape) (kind : Kind) (t : ℕ) (ps qs : List Part) → IsChecked k → (m : Leads k ps qs) → Safe k ps → begun_by m ≡ None → Still kind t ps → Still kind t qs
 leads_still k kind t ps qs ok (Leads.step m) safe none s = row_still k kind t m.v m.w ps qs ok m.row m.becomes safe (step_is_safe k ps qs ok m safe) none s
@@ -153,6 +156,7 @@ base_no_stop kind t v w ps qs (BaseMove.gives_run {old} {new} {from} {to} r) b m
 base_no_stop kind t v w ps qs (BaseMove.takes_run {old} {new} {from} {to} r) b more =
     no_more kind t (Cpu old ∷ Modules from ∷ []) (Cpu new ∷ Modules (record from { away = r.run ∷ from.away }) ∷ []) ps qs (subst (λ y. Becomes (Cpu old ∷ Modules from ∷ []) (Cpu new ∷ Modules y ∷ []) ps qs) r.list b) (omega arith) more
 base_no_stop kind t v w ps qs (BaseMove.notes_record {old} {new} {list} r) b more = no_more kind t (Cpu old ∷ Modules list ∷ []) (Cpu new ∷ Modules list ∷ []) ps qs b (omega arith) more
+base_no_stop kind t v w ps qs (BaseMove.reorders_runs {old} {new} r) b more = no_more_list kind t old new (record old { away = new.away }) ps qs b r.after (omega arith) more
 
 leads_no_stop : (k : Shape) (kind : Kind) (t : ℕ) (ps qs : List Part) → Leads k ps qs → Safe k ps → Still kind t ps → sum_by (stops_at kind t) ps < sum_by (stops_at kind t) qs → ⊥
 leads_no_stop k kind t ps qs (Leads.step m) safe s more = row_no_stop k kind t m.v m.w ps qs m.row m.becomes safe s more

@@ -1,5 +1,5 @@
 -- What a safe state tells of a CPU in it and of its module list.
-use Rattle.std.proofs.Common.{◌≡◌, ℕ, ◌<◌, ◌≤◌, ◌==◌, nat_lt, nat_le, List, [], ◌∷◌, ◌++◌, sum_by, count_by, refl, sym, subst, arith, Bool, true, false, not, cond, leb-true, Some}
+use Rattle.std.proofs.Common.{◌≡◌, ℕ, ◌<◌, ◌≤◌, ◌==◌, nat_lt, nat_le, List, [], ◌∷◌, ◌++◌, sum_by, count_by, refl, sym, subst, arith, Bool, true, false, not, cond, eq-eqb, leb-true, Some}
 use Rattle.std.specs.List.{list_any, list_all}
 use Rattle.std.proofs.lemmas.Bool.{and_from}
 use Rattle.std.proofs.lemmas.List.Sums.{sum_by-cons}
@@ -23,6 +23,9 @@ use Rattle.tag_model.proofs.ListRows.{OneList, list_with_cpu, one_before, the_on
 use Rattle.tag_model.proofs.LoadRow.{none_high}
 use Rattle.tag_model.proofs.Swept.{holds_first, part_passes, list_laws, same_run_refl, covered_below}
 
+pub same_id : (run : Run) → (run.id == run.id) ≡ true
+same_id run = eq-eqb run.id run.id refl
+
 -- ---- of a CPU
 
 -- it has at most one run on an id
@@ -43,7 +46,7 @@ sweep_in_bounds k l v w ps qs one b safe =
     let laws = list_laws k ps (the_one (one_before v w ps qs l one b safe.each.list)) safe.fits safe.cover safe.sweep.fits in
     (laws.sweep, laws.rise)
 
-none_fail : {X : Type 0} (p : X → Bool) (xs : List X) → count_by (λ x. not (p x)) xs ≡ 0 → list_all p xs ≡ true
+pub none_fail : {X : Type 0} (p : X → Bool) (xs : List X) → count_by (λ x. not (p x)) xs ≡ 0 → list_all p xs ≡ true
 none_fail p [] e = refl
 none_fail {X} p (x ∷ xs) e =
     let count = sum_by-cons (λ (y : X). cond {A = ℕ} (not (p y)) 1 0) x xs in
@@ -64,7 +67,7 @@ users_are_runs k l v w ps qs one b safe id = omega (arith, safe.cover.users id, 
 
 -- ---- of both
 
-some_passes : {X : Type 0} (test : X → Bool) (xs : List X) → 0 < count_by test xs → list_any test xs ≡ true
+pub some_passes : {X : Type 0} (test : X → Bool) (xs : List X) → 0 < count_by test xs → list_any test xs ≡ true
 some_passes test xs h =
     let f = found test xs h in
     subst (λ ys. list_any test ys ≡ true) (sym f.is) (any_at test f.front f.item f.back f.passes)

@@ -10,3 +10,4 @@ pub mod RefWord
 pub mod Index
 pub mod RefMoves
 pub mod ListMachine
+pub mod Telling

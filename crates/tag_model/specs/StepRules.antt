@@ -230,6 +230,11 @@ pub record NotesRecord (old new : CpuPart) (list : ListPart) : Type 0 where
   pub there : list.records ≡ front ++ entry ∷ back
   pub after : new ≡ record old { notes = record { id = entry.id; section = entry.section; start = entry.start; length = entry.length; seen_dead = entry.dead } ∷ old.notes }
 
+-- the runs on their way stand in another order
+pub record ReordersRuns (old new : ListPart) : Type 0 where
+  pub same : (test : Run → Bool) → count_by test new.away ≡ count_by test old.away
+  pub after : new ≡ record old { away = new.away }
+
 -- ---- one step of the machine, by the parts that it touches
 
 pub data Row (k : Shape) : List Part → List Part → Type 0 where
@@ -251,6 +256,7 @@ pub data BaseMove : List Part → List Part → Type 0 where
   gives_run : {old new : CpuPart} {from to : ListPart} → GivesRun old new from to → BaseMove (Cpu old ∷ Modules from ∷ []) (Cpu new ∷ Modules to ∷ [])
   takes_run : {old new : CpuPart} {from to : ListPart} → TakesRun old new from to → BaseMove (Cpu old ∷ Modules from ∷ []) (Cpu new ∷ Modules to ∷ [])
   notes_record : {old new : CpuPart} {list : ListPart} → NotesRecord old new list → BaseMove (Cpu old ∷ Modules list ∷ []) (Cpu new ∷ Modules list ∷ [])
+  reorders_runs : {old new : ListPart} → ReordersRuns old new → BaseMove (Modules old ∷ []) (Modules new ∷ [])
 
 -- these parts, wherever they stand among the others, become those
 pub record Becomes (v w old new : List Part) : Type 0 where

@@ -1,14 +1,18 @@
 //! What the whole of memprof speaks of: the shape of a machine, tags and references, and the state of its
 //! words. The definitions of the laws stand in `specs/`, and each step that the machine may take is proved to
-//! keep them in `rows`.
+//! keep them in `safe_laws` and the other files of laws.
 #![tactic(auto)]
 
+pub mod cover_laws;
 pub mod index;
 pub mod limits;
 pub mod list_machine;
+pub mod part_laws;
 pub mod ref_word;
-pub mod rows;
+pub mod release_laws;
+pub mod safe_laws;
 pub mod shape;
 pub mod state;
+pub mod sum_laws;
 #[cfg(test)]
 mod tests;
