@@ -1,12 +1,13 @@
 -- What the checks of a line ask of its keys, and what the line leaves.
-use Rattle.std.specs.Prelude.{ℕ, ◌≡◌, ◌+◌, ◌-◌, ◌/◌, ◌^◌, ◌==◌, Bool, true, false, ◌&&◌, not, nat_lt, nat_le, List, [], ◌∷◌, Option, Some, None, is_none, Result, Ok, Err, ⊤, slice_index_or, slice_set}
+use Rattle.std.specs.Prelude.{ℕ, ◌≡◌, ◌+◌, ◌-◌, ◌/◌, ◌^◌, ◌==◌, true, false, ◌&&◌, not, nat_lt, nat_le, List, [], ◌∷◌, Option, Some, None, is_none, Result, Ok, Err, ⊤, slice_index_or, slice_set}
 use Rattle.std.specs.List.{range_with_len}
 use Rattle.std.specs.Option.{ok_or}
 use Rattle.trace.specs.declared.code.Code.{Code}
 use Rattle.trace.specs.declared.code.Code.TheVariants as code
 use Rattle.trace.specs.Judging.{◌>>=◌, ◌>>◌, need}
+use Rattle.round_check.specs.declared.keys.Block.{Block}
 use Rattle.round_check.specs.declared.keys.Bound.{Bound}
-use Rattle.round_check.specs.declared.keys.Bound.TheVariants.{Object, Block}
+use Rattle.round_check.specs.declared.keys.Bound.TheVariants as kept
 use Rattle.round_check.specs.declared.keys.KeyState.{KeyState}
 use Rattle.round_check.specs.declared.keys.Turn.{Turn}
 use Rattle.round_check.specs.Tables.{unbound}
@@ -24,10 +25,18 @@ bound_key keys key = ok_or (key_at keys key).bound (code.NoKey key)
 unfoldable pub free_key : List KeyState → ℕ → Result ⊤ Code
 free_key keys key = need (is_none (key_at keys key).bound) (code.Bound key)
 
--- a block's order, its pages left and whether it was trimmed
-abbrev pub block_of : ℕ → Bound → Result (ℕ × ℕ × Bool) Code
-block_of key Object = Err (code.Kind key)
-block_of key (Block order pages trimmed) = Ok (order, pages, trimmed)
+-- the block that a key is bound to
+abbrev pub block_of : ℕ → Bound → Result Block Code
+block_of key kept.Object = Err (code.Kind key)
+block_of key (kept.Block block) = Ok block
+
+-- a block of an order, untrimmed
+abbrev pub whole_block : ℕ → Bound
+whole_block order = kept.Block (record { order = order; pages = 2 ^ order; trimmed = false })
+
+-- how many new keys a split of a block to an order has
+abbrev pub new_count : Block → ℕ → ℕ
+new_count block order = block.pages / 2 ^ order - 1
 
 -- the line of the turn names the key, which is then bound so
 abbrev pub bind : List KeyState → Turn → Option Bound → ℕ → List KeyState
@@ -70,7 +79,7 @@ part_keys keys turn key order first count = do
   need (nat_le (first + count - 1) 65535) code.Keys
   own_keys keys turn (range_with_len first count)
   free_keys keys (range_with_len first count)
-  Ok (bind_all keys turn (Some (Block order (2 ^ order) false)) (key ∷ range_with_len first count))
+  Ok (bind_all keys turn (Some (whole_block order)) (key ∷ range_with_len first count))
 
 -- `split`
 unfoldable pub split_key : List KeyState → Turn → ℕ → ℕ → ℕ → Result (List KeyState) Code
@@ -78,9 +87,9 @@ split_key keys turn key order first = do
   own_key keys turn key
   bound ← bound_key keys key
   block ← block_of key bound
-  need (not block.2) (code.Trimmed key)
-  need (nat_lt order block.0) code.Orders
-  part_keys keys turn key order first (block.1 / 2 ^ order - 1)
+  need (not block.trimmed) (code.Trimmed key)
+  need (nat_lt order block.order) code.Orders
+  part_keys keys turn key order first (new_count block order)
 
 -- `swap`
 unfoldable pub swap_keys : List KeyState → Turn → ℕ → ℕ → Result (List KeyState) Code
@@ -91,9 +100,9 @@ swap_keys keys turn one two = do
   second ← bound_key keys two
   block ← block_of one first
   other ← block_of two second
-  need (not block.2) (code.Trimmed one)
-  need (not other.2) (code.Trimmed two)
-  need (block.0 == other.0) code.Orders
+  need (not block.trimmed) (code.Trimmed one)
+  need (not other.trimmed) (code.Trimmed two)
+  need (block.order == other.order) code.Orders
   Ok (bind (bind keys turn (Some first) one) turn (Some second) two)
 
 -- `trim`
@@ -102,8 +111,8 @@ trim_key keys turn key pages = do
   own_key keys turn key
   bound ← bound_key keys key
   block ← block_of key bound
-  need (nat_lt pages block.1) code.Pages
-  Ok (bind keys turn (Some (Block block.0 (block.1 - pages) true)) key)
+  need (nat_lt pages block.pages) code.Pages
+  Ok (bind keys turn (Some (kept.Block (record block { pages = block.pages - pages; trimmed = true }))) key)
 
 -- What a call left is what judging the line gives.
 abbrev pub Settles : {S : Type 0} → Result ⊤ Code → S → Result S Code → Type 0

@@ -1,5 +1,5 @@
 -- The check of a trace's rounds: a fold over its items, each line after the other.
-use Rattle.std.specs.Prelude.{ℕ, ◌≡◌, ◌+◌, ◌-◌, ◌^◌, ◌==◌, Bool, true, false, ◌||◌, not, nat_lt, List, [], ◌∷◌, ◌++◌, length, take, Result, Ok, Err, ⊤, slice_index_or, slice_set, count_by}
+use Rattle.std.specs.Prelude.{ℕ, ◌≡◌, ◌+◌, ◌-◌, ◌==◌, Bool, true, false, ◌||◌, not, nat_lt, List, [], ◌∷◌, ◌++◌, length, take, Result, Ok, Err, ⊤, slice_index_or, slice_set, count_by}
 use Rattle.std.specs.List.{filter, list_any}
 use Rattle.trace.specs.declared.code.Code.{Code}
 use Rattle.trace.specs.declared.code.Code.TheVariants as code
@@ -12,21 +12,26 @@ use Rattle.trace.specs.declared.traces.TraceOp.{TraceOp}
 use Rattle.trace.specs.declared.traces.TraceOp.TheVariants as op
 use Rattle.trace.specs.declared.traces.Trace.{Trace}
 use Rattle.trace.specs.Judging.{◌>>=◌, ◌>>◌, need, at}
-use Rattle.round_check.specs.declared.keys.Bound.TheVariants.{Object, Block}
+use Rattle.round_check.specs.declared.keys.Bound.TheVariants.{Object}
 use Rattle.round_check.specs.declared.keys.KeyState.{KeyState}
+use Rattle.round_check.specs.declared.keys.Turn.{Turn}
 use Rattle.round_check.specs.declared.modules.ModuleState.{ModuleState}
 use Rattle.round_check.specs.declared.walk.Walk.{Walk}
-use Rattle.round_check.specs.Keys.{take_key, give_key, split_key, swap_keys, trim_key}
-use Rattle.round_check.specs.SeatParts.{SeatParts}
-use Rattle.round_check.specs.Seats.{idle_seats, seat_at, is_inside}
+use Rattle.round_check.specs.Keys.{whole_block, take_key, give_key, split_key, swap_keys, trim_key}
+use Rattle.round_check.specs.CpuState.{CpuState}
+use Rattle.round_check.specs.Cpus.{idle_cpus, cpu_at, is_inside}
 use Rattle.round_check.specs.Tables.{absent, absent_modules, unbound_keys}
 
 -- before the first line
 abbrev pub start : Walk
-start = record { keys = unbound_keys 65536; modules = absent_modules 65; seats = idle_seats 64; round = 0 }
+start = record { keys = unbound_keys 65536; modules = absent_modules 65; cpus = idle_cpus 64; round = 0 }
 
 abbrev pub module_at : Walk → ℕ → ModuleState
 module_at walk section = slice_index_or walk.modules section absent
+
+-- the round and the CPU of a line
+abbrev pub turn_of : Walk → ℕ → Turn
+turn_of walk cpu = record { round = walk.round; cpu = cpu }
 
 abbrev pub with_keys : Walk → Result (List KeyState) Code → Result Walk Code
 with_keys walk keys = do
@@ -36,8 +41,8 @@ with_keys walk keys = do
 abbrev pub with_module : Walk → ℕ → ModuleState → Walk
 with_module walk section state = record walk { modules = slice_set walk.modules section state }
 
-abbrev pub with_seat : Walk → ℕ → SeatParts → Walk
-with_seat walk cpu seat = record walk { seats = slice_set walk.seats cpu seat }
+abbrev pub with_cpu : Walk → ℕ → CpuState → Walk
+with_cpu walk cpu state = record walk { cpus = slice_set walk.cpus cpu state }
 
 -- whether this round has entered or left the module, or unloaded it
 abbrev pub is_moved : Walk → ℕ → Bool
@@ -55,37 +60,37 @@ unfoldable pub enter_module : Walk → ℕ → ℕ → Result Walk Code
 enter_module walk cpu section = do
   need (not (is_unloaded walk section)) (code.UnloadShared section)
   need (module_at walk section).loaded (code.NotLoaded section)
-  need (not (is_inside section (seat_at walk.seats cpu))) (code.Inside section)
-  Ok (with_seat (moved walk section) cpu (record (seat_at walk.seats cpu) { inside = (seat_at walk.seats cpu).inside ++ section ∷ [] }))
+  need (not (is_inside section (cpu_at walk.cpus cpu))) (code.Inside section)
+  Ok (with_cpu (moved walk section) cpu (record (cpu_at walk.cpus cpu) { inside = (cpu_at walk.cpus cpu).inside ++ section ∷ [] }))
 
 -- `leave`
 unfoldable pub leave_module : Walk → ℕ → ℕ → Result Walk Code
 leave_module walk cpu section = do
   need (not (is_unloaded walk section)) (code.UnloadShared section)
-  need (is_inside section (seat_at walk.seats cpu)) (code.NotInside section)
-  need (not (list_any (λ other. other == section) (seat_at walk.seats cpu).hooks)) (code.Hooked section)
-  Ok (with_seat (moved walk section) cpu (record (seat_at walk.seats cpu) { inside = filter (λ other. not (other == section)) (seat_at walk.seats cpu).inside }))
+  need (is_inside section (cpu_at walk.cpus cpu)) (code.NotInside section)
+  need (not (list_any (λ other. other == section) (cpu_at walk.cpus cpu).hooks)) (code.Hooked section)
+  Ok (with_cpu (moved walk section) cpu (record (cpu_at walk.cpus cpu) { inside = filter (λ other. not (other == section)) (cpu_at walk.cpus cpu).inside }))
 
 -- `unload`
 unfoldable pub unload_module : Walk → ℕ → Result Walk Code
 unload_module walk section = do
   need (not (is_moved walk section || is_unloaded walk section)) (code.UnloadShared section)
   need (module_at walk section).loaded (code.NotLoaded section)
-  need (count_by (is_inside section) walk.seats == 0) (code.Busy (count_by (is_inside section) walk.seats))
+  need (count_by (is_inside section) walk.cpus == 0) (code.Busy (count_by (is_inside section) walk.cpus))
   Ok (with_module walk section (record (module_at walk section) { loaded = false; unloaded = walk.round }))
 
 -- `hook`
 unfoldable pub hook_tag : Walk → ℕ → ℕ → Result Walk Code
 hook_tag walk cpu section = do
-  need (section == 0 || is_inside section (seat_at walk.seats cpu)) (code.NotInside section)
-  need (nat_lt (length (seat_at walk.seats cpu).hooks) 16) code.Deep
-  Ok (with_seat walk cpu (record (seat_at walk.seats cpu) { hooks = (seat_at walk.seats cpu).hooks ++ section ∷ [] }))
+  need (section == 0 || is_inside section (cpu_at walk.cpus cpu)) (code.NotInside section)
+  need (nat_lt (length (cpu_at walk.cpus cpu).hooks) 16) code.Deep
+  Ok (with_cpu walk cpu (record (cpu_at walk.cpus cpu) { hooks = (cpu_at walk.cpus cpu).hooks ++ section ∷ [] }))
 
 -- `unhook`
 unfoldable pub unhook_tag : Walk → ℕ → Result Walk Code
 unhook_tag walk cpu = do
-  need (nat_lt 0 (length (seat_at walk.seats cpu).hooks)) code.NoHook
-  Ok (with_seat walk cpu (record (seat_at walk.seats cpu) { hooks = take (length (seat_at walk.seats cpu).hooks - 1) (seat_at walk.seats cpu).hooks }))
+  need (nat_lt 0 (length (cpu_at walk.cpus cpu).hooks)) code.NoHook
+  Ok (with_cpu walk cpu (record (cpu_at walk.cpus cpu) { hooks = take (length (cpu_at walk.cpus cpu).hooks - 1) (cpu_at walk.cpus cpu).hooks }))
 
 -- `load`
 unfoldable pub load_module : Walk → ℕ → Result Walk Code
@@ -95,12 +100,12 @@ load_module walk section = do
 
 -- an op of a CPU
 unfoldable pub walk_op : ℕ → TraceOp → Walk → Result Walk Code
-walk_op cpu (op.Page key order) walk = with_keys walk (take_key walk.keys (record { round = walk.round; cpu = cpu }) key (Block order (2 ^ order) false))
-walk_op cpu (op.Kmalloc key size) walk = with_keys walk (take_key walk.keys (record { round = walk.round; cpu = cpu }) key Object)
-walk_op cpu (op.Free key) walk = with_keys walk (give_key walk.keys (record { round = walk.round; cpu = cpu }) key)
-walk_op cpu (op.Split key order first) walk = with_keys walk (split_key walk.keys (record { round = walk.round; cpu = cpu }) key order first)
-walk_op cpu (op.Swap one two) walk = with_keys walk (swap_keys walk.keys (record { round = walk.round; cpu = cpu }) one two)
-walk_op cpu (op.Trim key pages) walk = with_keys walk (trim_key walk.keys (record { round = walk.round; cpu = cpu }) key pages)
+walk_op cpu (op.Page key order) walk = with_keys walk (take_key walk.keys (turn_of walk cpu) key (whole_block order))
+walk_op cpu (op.Kmalloc key size) walk = with_keys walk (take_key walk.keys (turn_of walk cpu) key Object)
+walk_op cpu (op.Free key) walk = with_keys walk (give_key walk.keys (turn_of walk cpu) key)
+walk_op cpu (op.Split key order first) walk = with_keys walk (split_key walk.keys (turn_of walk cpu) key order first)
+walk_op cpu (op.Swap one two) walk = with_keys walk (swap_keys walk.keys (turn_of walk cpu) one two)
+walk_op cpu (op.Trim key pages) walk = with_keys walk (trim_key walk.keys (turn_of walk cpu) key pages)
 walk_op cpu (op.Hook section index) walk = hook_tag walk cpu section
 walk_op cpu op.Unhook walk = unhook_tag walk cpu
 walk_op cpu (op.Enter section) walk = enter_module walk cpu section
@@ -114,8 +119,12 @@ walk_ops (on ∷ others) walk = do
   next ← at on.line (walk_op on.cpu on.op walk)
   walk_ops others next
 
+-- the next round begins
+abbrev pub begun : Walk → Walk
+begun walk = record walk { round = walk.round + 1 }
+
 unfoldable pub walk_item : Item → Walk → Result Walk (ℕ × Code)
-walk_item (item.Round ops) walk = walk_ops ops (record walk { round = walk.round + 1 })
+walk_item (item.Round ops) walk = walk_ops ops (begun walk)
 walk_item (item.Load line section) walk = at line (load_module walk section)
 walk_item item.Print walk = Ok walk
 walk_item item.Areas walk = Ok walk

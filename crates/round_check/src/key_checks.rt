@@ -5,7 +5,7 @@ ghost use Rattle.std.specs.List.{range_with_len};
 ghost use Rattle.trace.specs.Judging.{need};
 ghost use Rattle.round_check.specs.Keys.{own_key, bound_key, free_key, block_of, bind, own_keys, free_keys, bind_all, take_key, give_key, part_keys, split_key, swap_keys, trim_key, Settles};
 
-use crate::keys::{Bound, KeyState, KeyTable, Turn};
+use crate::keys::{Block, Bound, KeyState, KeyTable, Turn};
 use trace::Code;
 
 pub(crate) fn need(test: bool, code: Code) -> Result<(), Code>
@@ -43,16 +43,12 @@ fn free_key(keys: &KeyTable, key: u32) -> Result<(), Code>
     need(keys.at(key).bound.is_none(), Code::Bound(key))
 }
 
-fn block_of(key: u32, bound: Bound) -> Result<(u32, u32, bool), Code>
+fn block_of(key: u32, bound: Bound) -> Result<Block, Code>
     ensures { result ≡ block_of key bound }
 {
     match bound {
         Bound::Object => Err(Code::Kind(key)),
-        Bound::Block {
-            order,
-            pages,
-            trimmed,
-        } => Ok((order, pages, trimmed)),
+        Bound::Block(block) => Ok(block),
     }
 }
 
@@ -157,11 +153,11 @@ fn part_keys(
     )?;
     own_keys(keys, turn, first, count)?;
     free_keys(keys, first, count)?;
-    let part = Some(Bound::Block {
+    let part = Some(Bound::Block(Block {
         order,
         pages: pages_of(order),
         trimmed: false,
-    });
+    }));
     bind(keys, turn, part, key);
     bind_all(keys, turn, part, first, count);
     Ok(())
@@ -183,16 +179,16 @@ pub(crate) fn split_key(
 {
     own_key(keys, turn, key)?;
     let bound = bound_key(keys, key)?;
-    let (whole, pages, trimmed) = block_of(key, bound)?;
-    need(!trimmed, Code::Trimmed(key))?;
-    need(order < whole, Code::Orders)?;
+    let block = block_of(key, bound)?;
+    need(!block.trimmed, Code::Trimmed(key))?;
+    need(order < block.order, Code::Orders)?;
     part_keys(
         keys,
         turn,
         key,
         order,
         first,
-        (pages / pages_of(order)).saturating_sub(1),
+        (block.pages / pages_of(order)).saturating_sub(1),
     )
 }
 
@@ -209,9 +205,9 @@ pub(crate) fn swap_keys(keys: &mut KeyTable, turn: Turn, one: u32, two: u32) -> 
     let second = bound_key(keys, two)?;
     let block = block_of(one, first)?;
     let other = block_of(two, second)?;
-    need(!block.2, Code::Trimmed(one))?;
-    need(!other.2, Code::Trimmed(two))?;
-    need(block.0 == other.0, Code::Orders)?;
+    need(!block.trimmed, Code::Trimmed(one))?;
+    need(!other.trimmed, Code::Trimmed(two))?;
+    need(block.order == other.order, Code::Orders)?;
     bind(keys, turn, Some(first), one);
     bind(keys, turn, Some(second), two);
     Ok(())
@@ -226,12 +222,12 @@ pub(crate) fn trim_key(keys: &mut KeyTable, turn: Turn, key: u32, pages: u32) ->
     own_key(keys, turn, key)?;
     let bound = bound_key(keys, key)?;
     let block = block_of(key, bound)?;
-    need(pages < block.1, Code::Pages)?;
-    let left = Bound::Block {
-        order: block.0,
-        pages: block.1 - pages,
+    need(pages < block.pages, Code::Pages)?;
+    let left = Block {
+        order: block.order,
+        pages: block.pages - pages,
         trimmed: true,
     };
-    bind(keys, turn, Some(left), key);
+    bind(keys, turn, Some(Bound::Block(left)), key);
     Ok(())
 }

@@ -6,30 +6,34 @@ ghost use Rattle.round_check.specs.Tables.{unbound, unbound_keys};
 use std::alloc::{AllocError, Global};
 use std::marker::Model;
 
-/// What a key is bound to. A block has so many pages of its accounted size left.
+/// A block, with so many pages of its accounted size left.
 #[derive(Clone, Copy, Debug, PartialEq, Eq)]
-pub(crate) enum Bound {
+pub struct Block {
+    pub order: u32,
+    pub pages: u32,
+    pub trimmed: bool,
+}
+
+/// What a key is bound to.
+#[derive(Clone, Copy, Debug, PartialEq, Eq)]
+pub enum Bound {
     Object,
-    Block {
-        order: u32,
-        pages: u32,
-        trimmed: bool,
-    },
+    Block(Block),
 }
 
 /// What a key is bound to, and the round and the CPU of the last line that named it.
 #[derive(Clone, Copy, Debug, PartialEq, Eq)]
-pub(crate) struct KeyState {
-    pub(crate) bound: Option<Bound>,
-    pub(crate) round: u32,
-    pub(crate) cpu: u32,
+pub struct KeyState {
+    pub bound: Option<Bound>,
+    pub round: u32,
+    pub cpu: u32,
 }
 
 /// The round and the CPU of a line.
 #[derive(Clone, Copy, Debug, PartialEq, Eq)]
-pub(crate) struct Turn {
-    pub(crate) round: u32,
-    pub(crate) cpu: u32,
+pub struct Turn {
+    pub round: u32,
+    pub cpu: u32,
 }
 
 /// One more than the greatest key.
@@ -37,7 +41,7 @@ pub(crate) const KEY_COUNT: usize = 65_536;
 
 /// The states of all keys, by key.
 #[derive(Debug, Drop)]
-pub(crate) struct KeyTable {
+pub struct KeyTable {
     keys: Vec<KeyState>,
 }
 

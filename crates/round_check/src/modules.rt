@@ -8,10 +8,10 @@ use std::marker::Model;
 
 /// Whether a module is loaded, the last round that entered or left it, and the last one that unloaded it.
 #[derive(Clone, Copy, Debug, PartialEq, Eq)]
-pub(crate) struct ModuleState {
-    pub(crate) loaded: bool,
-    pub(crate) moved: u32,
-    pub(crate) unloaded: u32,
+pub struct ModuleState {
+    pub loaded: bool,
+    pub moved: u32,
+    pub unloaded: u32,
 }
 
 /// The most sections.
@@ -19,7 +19,7 @@ pub(crate) const SECTION_COUNT: usize = 65;
 
 /// The states of all modules, by section.
 #[derive(Debug, Drop)]
-pub(crate) struct ModuleTable {
+pub struct ModuleTable {
     modules: Vec<ModuleState>,
 }
 

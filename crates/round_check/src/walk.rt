@@ -6,20 +6,20 @@ ghost use Rattle.trace.specs.Formed.{IsFormedTrace};
 ghost use Rattle.round_check.specs.Formed.{FitsOp, FitsOn, FitsItem};
 ghost use Rattle.round_check.specs.Walk.{start, moved, enter_module, leave_module, unload_module, hook_tag, unhook_tag, load_module, walk_op, walk_ops, walk_item, walk_items, rounds_of, LeavesAll};
 
+use crate::cpus::CpuTable;
 use crate::key_checks::{give_key, need, pages_of, split_key, swap_keys, take_key, trim_key};
-use crate::keys::{Bound, KeyTable, Turn};
+use crate::keys::{Block, Bound, KeyTable, Turn};
 use crate::modules::ModuleTable;
-use crate::seats::Seats;
 use std::alloc::{AllocError, Global};
 use trace::{Code, Item, LineError, OnOp, TextError, Trace, TraceOp, error_at};
 
 /// What the lines so far leave, and the number of rounds so far.
 #[derive(Debug, Drop)]
-pub(crate) struct Walk {
-    keys: KeyTable,
-    modules: ModuleTable,
-    seats: Seats,
-    round: u32,
+pub struct Walk {
+    pub keys: KeyTable,
+    pub modules: ModuleTable,
+    pub cpus: CpuTable,
+    pub round: u32,
 }
 
 /// The most hooks that are out on a CPU.
@@ -31,7 +31,7 @@ fn start(alloc: Global) -> Result<Walk, AllocError>
     Ok(Walk {
         keys: KeyTable::new(alloc)?,
         modules: ModuleTable::new(alloc)?,
-        seats: Seats::new(alloc)?,
+        cpus: CpuTable::new(alloc)?,
         round: 0,
     })
 }
@@ -56,9 +56,9 @@ fn enter_module(walk: &mut Walk, cpu: u32, section: u32) -> Result<(), LineError
     let state = walk.modules.at(section);
     need(state.unloaded != walk.round, Code::UnloadShared(section))?;
     need(state.loaded, Code::NotLoaded(section))?;
-    need(!walk.seats.is_inside(cpu, section), Code::Inside(section))?;
+    need(!walk.cpus.is_inside(cpu, section), Code::Inside(section))?;
     moved(walk, section);
-    walk.seats.enter(cpu, section)?;
+    walk.cpus.enter(cpu, section)?;
     Ok(())
 }
 
@@ -71,10 +71,10 @@ fn leave_module(walk: &mut Walk, cpu: u32, section: u32) -> Result<(), LineError
 {
     let state = walk.modules.at(section);
     need(state.unloaded != walk.round, Code::UnloadShared(section))?;
-    need(walk.seats.is_inside(cpu, section), Code::NotInside(section))?;
-    need(!walk.seats.is_hooked(cpu, section), Code::Hooked(section))?;
+    need(walk.cpus.is_inside(cpu, section), Code::NotInside(section))?;
+    need(!walk.cpus.is_hooked(cpu, section), Code::Hooked(section))?;
     moved(walk, section);
-    walk.seats.leave(cpu, section);
+    walk.cpus.leave(cpu, section);
     Ok(())
 }
 
@@ -88,7 +88,7 @@ fn unload_module(walk: &mut Walk, section: u32) -> Result<(), LineError>
     let shared = state.moved == walk.round || state.unloaded == walk.round;
     need(!shared, Code::UnloadShared(section))?;
     need(state.loaded, Code::NotLoaded(section))?;
-    let users = walk.seats.users(section);
+    let users = walk.cpus.users(section);
     need(users == 0, Code::Busy(users))?;
     state.loaded = false;
     state.unloaded = walk.round;
@@ -103,11 +103,11 @@ fn hook_tag(walk: &mut Walk, cpu: u32, section: u32) -> Result<(), LineError>
     ensures round { walk.new.round ≡ walk.old.round }
 {
     need(
-        section == 0 || walk.seats.is_inside(cpu, section),
+        section == 0 || walk.cpus.is_inside(cpu, section),
         Code::NotInside(section),
     )?;
-    need(walk.seats.hooks_out(cpu) < HOOK_LIMIT, Code::Deep)?;
-    walk.seats.hook(cpu, section)?;
+    need(walk.cpus.hooks_out(cpu) < HOOK_LIMIT, Code::Deep)?;
+    walk.cpus.hook(cpu, section)?;
     Ok(())
 }
 
@@ -117,8 +117,8 @@ fn unhook_tag(walk: &mut Walk, cpu: u32) -> Result<(), LineError>
     ensures judged { Leaves result walk.new (unhook_tag walk.old cpu) }
     ensures round { walk.new.round ≡ walk.old.round }
 {
-    need(walk.seats.hooks_out(cpu) > 0, Code::NoHook)?;
-    walk.seats.unhook(cpu);
+    need(walk.cpus.hooks_out(cpu) > 0, Code::NoHook)?;
+    walk.cpus.unhook(cpu);
     Ok(())
 }
 
@@ -149,12 +149,12 @@ fn walk_op(walk: &mut Walk, cpu: u32, op: TraceOp) -> Result<(), LineError>
     };
     match op {
         TraceOp::Page { key, order } => {
-            let bound = Bound::Block {
+            let block = Block {
                 order,
                 pages: pages_of(order),
                 trimmed: false,
             };
-            take_key(&mut walk.keys, turn, key, bound)?;
+            take_key(&mut walk.keys, turn, key, Bound::Block(block))?;
             Ok(())
         }
         TraceOp::Kmalloc { key, .. } => {

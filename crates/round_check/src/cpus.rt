@@ -2,7 +2,7 @@
 
 ghost use Rattle.std.specs.Prelude.{◌≡◌, ◌==◌, ◌<◌, not, length, slice_set, take, vec_len, IfOk, OnOk, ◌-◌, ◌++◌, ◌∷◌, [], count_by};
 ghost use Rattle.std.specs.List.{filter, list_any};
-ghost use Rattle.round_check.specs.Seats.{idle, idle_seats, seat_at, is_inside};
+ghost use Rattle.round_check.specs.Cpus.{idle, idle_cpus, cpu_at, is_inside};
 
 use std::alloc::{AllocError, Global};
 use std::marker::Model;
@@ -10,17 +10,17 @@ use std::marker::Model;
 /// The sections of the tags of the hooks that are out, the last one at the end, and those of the modules that the
 /// CPU is inside.
 #[derive(Debug, Drop)]
-pub(crate) struct Seat {
+pub(crate) struct CpuLists {
     hooks: Vec<u32>,
     inside: Vec<u32>,
 }
 
-impl Model for Seat {
-    ghost use Rattle.round_check.specs.SeatParts.{SeatParts};
+impl Model for CpuLists {
+    ghost use Rattle.round_check.specs.CpuState.{CpuState};
 
-    ghost Value = { SeatParts };
+    ghost Value = { CpuState };
 
-    ghost view = { λ seat. record { hooks = seat.hooks.items; inside = seat.inside.items } };
+    ghost view = { λ lists. record { hooks = lists.hooks.items; inside = lists.inside.items } };
 }
 
 fn remove_all(sections: &mut Vec<u32>, section: u32)
@@ -29,11 +29,11 @@ fn remove_all(sections: &mut Vec<u32>, section: u32)
     sections.retain(|other| *other != section);
 }
 
-impl Seat {
-    fn new(alloc: Global) -> Seat
+impl CpuLists {
+    fn new(alloc: Global) -> CpuLists
         ensures { result ≡ idle }
     {
-        Seat {
+        CpuLists {
             hooks: Vec::new(alloc),
             inside: Vec::new(alloc),
         }
@@ -87,108 +87,108 @@ impl Seat {
 /// The most CPUs.
 pub(crate) const CPU_COUNT: usize = 64;
 
-/// The seats of all CPUs, by CPU.
+/// The states of all CPUs, by CPU.
 #[derive(Debug, Drop)]
-pub(crate) struct Seats {
-    seats: Vec<Seat>,
+pub struct CpuTable {
+    cpus: Vec<CpuLists>,
 }
 
-impl Model for Seats {
+impl Model for CpuTable {
     ghost use Rattle.std.specs.Prelude.{◌≡◌, List, vec_len};
-    ghost use Rattle.round_check.specs.SeatParts.{SeatParts};
+    ghost use Rattle.round_check.specs.CpuState.{CpuState};
 
-    ghost Value = { List SeatParts };
+    ghost Value = { List CpuState };
 
-    ghost view = { λ table. table.seats.items };
+    ghost view = { λ table. table.cpus.items };
 
-    ghost invariant = { λ table. vec_len table.seats ≡ 64 };
+    ghost invariant = { λ table. vec_len table.cpus ≡ 64 };
 }
 
-#[tactic(auto, unfolding(crate::specs::Seats::idle_seats))]
-fn idle_list(alloc: Global, count: usize) -> Result<Vec<Seat>, AllocError>
-    ensures items { IfOk result (λ seats. seats.items ≡ idle_seats count) }
-    ensures len { IfOk result (λ seats. vec_len seats ≡ count) }
+#[tactic(auto, unfolding(crate::specs::Cpus::idle_cpus))]
+fn idle_cpus(alloc: Global, count: usize) -> Result<Vec<CpuLists>, AllocError>
+    ensures items { IfOk result (λ cpus. cpus.items ≡ idle_cpus count) }
+    ensures len { IfOk result (λ cpus. vec_len cpus ≡ count) }
 {
-    let mut seats = Vec::new(alloc);
+    let mut cpus = Vec::new(alloc);
     for _ in 0..count {
-        seats.push(Seat::new(alloc))?;
+        cpus.push(CpuLists::new(alloc))?;
     }
-    Ok(seats)
+    Ok(cpus)
 }
 
-impl Seats {
+impl CpuTable {
     /// No hook is out, and no CPU is inside a module.
-    pub(crate) fn new(alloc: Global) -> Result<Seats, AllocError>
-        ensures { IfOk result (λ table. table ≡ idle_seats 64) }
+    pub(crate) fn new(alloc: Global) -> Result<CpuTable, AllocError>
+        ensures { IfOk result (λ table. table ≡ idle_cpus 64) }
     {
-        Ok(Seats {
-            seats: idle_list(alloc, CPU_COUNT)?,
+        Ok(CpuTable {
+            cpus: idle_cpus(alloc, CPU_COUNT)?,
         })
     }
 
     pub(crate) fn hook(&mut self, cpu: u32, section: u32) -> Result<(), AllocError>
         requires { cpu < 64 }
-        ensures { OnOk result (self.new ≡ slice_set self.old cpu (record (seat_at self.old cpu) { hooks = (seat_at self.old cpu).hooks ++ section ∷ [] })) }
+        ensures { OnOk result (self.new ≡ slice_set self.old cpu (record (cpu_at self.old cpu) { hooks = (cpu_at self.old cpu).hooks ++ section ∷ [] })) }
     {
-        let seat = &mut self.seats[cpu as usize];
-        seat.hook(section)
+        let lists = &mut self.cpus[cpu as usize];
+        lists.hook(section)
     }
 
     pub(crate) fn unhook(&mut self, cpu: u32)
         requires { cpu < 64 }
-        ensures { self.new ≡ slice_set self.old cpu (record (seat_at self.old cpu) { hooks = take (length (seat_at self.old cpu).hooks - 1) (seat_at self.old cpu).hooks }) }
+        ensures { self.new ≡ slice_set self.old cpu (record (cpu_at self.old cpu) { hooks = take (length (cpu_at self.old cpu).hooks - 1) (cpu_at self.old cpu).hooks }) }
     {
-        let seat = &mut self.seats[cpu as usize];
-        seat.unhook();
+        let lists = &mut self.cpus[cpu as usize];
+        lists.unhook();
     }
 
     pub(crate) fn enter(&mut self, cpu: u32, section: u32) -> Result<(), AllocError>
         requires { cpu < 64 }
-        ensures { OnOk result (self.new ≡ slice_set self.old cpu (record (seat_at self.old cpu) { inside = (seat_at self.old cpu).inside ++ section ∷ [] })) }
+        ensures { OnOk result (self.new ≡ slice_set self.old cpu (record (cpu_at self.old cpu) { inside = (cpu_at self.old cpu).inside ++ section ∷ [] })) }
     {
-        let seat = &mut self.seats[cpu as usize];
-        seat.enter(section)
+        let lists = &mut self.cpus[cpu as usize];
+        lists.enter(section)
     }
 
     pub(crate) fn leave(&mut self, cpu: u32, section: u32)
         requires { cpu < 64 }
-        ensures { self.new ≡ slice_set self.old cpu (record (seat_at self.old cpu) { inside = filter (λ other. not (other == section)) (seat_at self.old cpu).inside }) }
+        ensures { self.new ≡ slice_set self.old cpu (record (cpu_at self.old cpu) { inside = filter (λ other. not (other == section)) (cpu_at self.old cpu).inside }) }
     {
-        let seat = &mut self.seats[cpu as usize];
-        seat.leave(section);
+        let lists = &mut self.cpus[cpu as usize];
+        lists.leave(section);
     }
 
     pub(crate) fn hooks_out(&self, cpu: u32) -> usize
         requires { cpu < 64 }
-        ensures { result ≡ length (seat_at self.now cpu).hooks }
+        ensures { result ≡ length (cpu_at self.now cpu).hooks }
     {
-        let seat = &self.seats[cpu as usize];
-        seat.hooks_out()
+        let lists = &self.cpus[cpu as usize];
+        lists.hooks_out()
     }
 
     pub(crate) fn is_hooked(&self, cpu: u32, section: u32) -> bool
         requires { cpu < 64 }
-        ensures { result ≡ list_any (λ other. other == section) (seat_at self.now cpu).hooks }
+        ensures { result ≡ list_any (λ other. other == section) (cpu_at self.now cpu).hooks }
     {
-        let seat = &self.seats[cpu as usize];
-        seat.is_hooked(section)
+        let lists = &self.cpus[cpu as usize];
+        lists.is_hooked(section)
     }
 
     pub(crate) fn is_inside(&self, cpu: u32, section: u32) -> bool
         requires { cpu < 64 }
-        ensures { result ≡ is_inside section (seat_at self.now cpu) }
+        ensures { result ≡ is_inside section (cpu_at self.now cpu) }
     {
-        let seat = &self.seats[cpu as usize];
-        seat.is_inside(section)
+        let lists = &self.cpus[cpu as usize];
+        lists.is_inside(section)
     }
 
     /// How many CPUs are inside a module.
     pub(crate) fn users(&self, section: u32) -> u32
         ensures { result ≡ count_by (is_inside section) self.now }
     {
-        self.seats
+        self.cpus
             .iter()
-            .filter(|seat| seat.is_inside(section))
+            .filter(|lists| lists.is_inside(section))
             .count() as u32
     }
 }
