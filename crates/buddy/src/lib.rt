@@ -1,0 +1,12 @@
+//! A zone of frames: a take gives the least aligned run of free frames, and a give brings one back.
+#![tactic(auto)]
+
+mod bits;
+mod laws;
+mod zone;
+
+pub use laws::worked_zone;
+pub use zone::Zone;
+
+#[cfg(test)]
+mod tests;
