@@ -31,7 +31,7 @@ pub mod Stops
 pub mod Swept
 pub mod Told
 pub mod Words
-mod Slots
-mod LiveLists
-mod OpMoves
-mod MovedWords
+pub mod Slots
+pub mod LiveLists
+pub mod OpMoves
+pub mod MovedWords

@@ -6,9 +6,11 @@ use Rattle.tag_model.specs.declared.state.Kind.{Kind}
 use Rattle.tag_model.specs.declared.state.Kind.TheVariants.{Bytes, Calls}
 use Rattle.tag_model.specs.Laws.{same_kind}
 use Rattle.tag_model.specs.Moves.{Move, is_on, moved_word}
-use Rattle.tag_model.specs.RefMoves.{words_after_move, words_after_moves}
+use Rattle.tag_model.specs.declared.state.Tag.{Tag}
+use Rattle.tag_model.specs.StepRules.{raised, lowered}
+use Rattle.tag_model.specs.RefMoves.{raises, lowers, words_after_move, words_after_moves}
 use Rattle.tag_model.specs.WordState.{word_place}
-use Rattle.tag_model.specs.Wrap.{wrap_minus}
+use Rattle.tag_model.specs.Wrap.{wrap, wrap_minus}
 use Rattle.tag_model.proofs.Words.{by_word, word_within}
 
 up_on : ℕ → Kind → ℕ → Move → ℕ
@@ -97,3 +99,23 @@ follows cpu tags words before (m ∷ now) len is =
     let later : Follows cpu tags (words_after_moves cpu (words_after_move cpu words m) now) ((before ++ m ∷ []) ++ now) =
     follows cpu tags (words_after_move cpu words m) (before ++ m ∷ []) now (same_length cpu words m ∙ len) (follows_one cpu tags words before m len is) in
     subst (λ moves. Follows cpu tags (words_after_moves cpu (words_after_move cpu words m) now) moves) (append_assoc before (m ∷ []) now) later
+
+-- ---- a move that raises or lowers is the step that does
+
+own_cpu : (n : ℕ) → (n == n) ≡ true
+own_cpu n = grind arith
+
+nothing_down : (x : ℕ) → wrap_minus x 0 ≡ wrap x
+nothing_down x = omega arith
+
+pub raises_is : (cpu : ℕ) (kind : Kind) (tag : Tag) (n : ℕ) (words : List ℕ) → words_after_move cpu words (raises cpu kind tag n) ≡ raised kind tag.number n words
+raises_is cpu kind tag n words =
+    rw (own_cpu cpu) (ap (λ v. slice_set words (word_place kind tag.number) v) (nothing_down (slice_index words (word_place kind tag.number) + n)))
+
+pub lowers_is : (cpu : ℕ) (kind : Kind) (tag : Tag) (n : ℕ) (words : List ℕ) → words_after_move cpu words (lowers cpu kind tag n) ≡ lowered kind tag.number n words
+lowers_is cpu kind tag n words =
+    let same : slice_index words (word_place kind tag.number) + 0 ≡ slice_index words (word_place kind tag.number) = omega arith in
+    rw (own_cpu cpu) (ap (λ v. slice_set words (word_place kind tag.number) (wrap_minus v n)) same)
+
+pub not_own : (cpu other : ℕ) (kind : Kind) (tag : Tag) (n : ℕ) (words : List ℕ) → other ≢ cpu → words_after_move cpu words (raises other kind tag n) ≡ words
+not_own cpu other kind tag n words ne = let apart : (other == cpu) ≡ false = grind arith in rw apart refl

@@ -4,7 +4,8 @@
 ghost use Rattle.std.specs.Prelude.{IsTrue, List, [], count_by, length, slice_index, ℕ, ◌*◌, ◌+◌, ◌++◌, ◌-◌, ◌<◌, ◌==◌, ◌^◌, ◌∷◌, ◌≡◌, ◌≢◌, ◌≤◌};
 ghost use Rattle.tag_model.specs.ListMachine.{Close, Live, Mark, MayDo, Open, RefOp, Split, Swap, Trim, done, done_all, held_at, in_order, op_moves, with_held};
 ghost use Rattle.tag_model.specs.Moves.{Move, moved_word};
-ghost use Rattle.tag_model.specs.RefMoves.{all_down, all_up, words_after_moves};
+ghost use Rattle.tag_model.specs.RefMoves.{all_down, all_up, lowers, raises, words_after_move, words_after_moves};
+ghost use Rattle.tag_model.specs.StepRules.{lowered, raised};
 ghost use Rattle.tag_model.specs.Reference.{held_counts, live_total};
 ghost use Rattle.tag_model.specs.declared.state.Held.{Held};
 ghost use Rattle.tag_model.specs.declared.state.Held.TheVariants as held;
@@ -53,7 +54,11 @@ pub fn rows_of_the_list_machine()
     ensures free_of_a_mark { op_moves 7 (Close 5) ((5, held.Empty) ∷ []) ≡ [] }
 {}
 
-/// A CPU's words that were the sums of some moves are, after more moves, the sums of all of them.
+/// A move that raises or lowers a CPU's word is the step that does. A CPU's words that were the sums of some moves are,
+/// after more moves, the sums of all of them.
 pub fn words_follow_moves()
-    ensures { (cpu tags : ℕ) (words : List ℕ) (before now : List Move) → length words ≡ 2 * tags → ((kind : Kind) (t : ℕ) → t < tags → slice_index words (word_place kind t) ≡ moved_word before cpu kind t) → (kind : Kind) (t : ℕ) → t < tags → slice_index (words_after_moves cpu words now) (word_place kind t) ≡ moved_word (before ++ now) cpu kind t }
+    ensures raised { (cpu : ℕ) (kind : Kind) (tag : Tag) (n : ℕ) (words : List ℕ) → words_after_move cpu words (raises cpu kind tag n) ≡ raised kind tag.number n words }
+    ensures lowered { (cpu : ℕ) (kind : Kind) (tag : Tag) (n : ℕ) (words : List ℕ) → words_after_move cpu words (lowers cpu kind tag n) ≡ lowered kind tag.number n words }
+    ensures another_cpus { (cpu other : ℕ) (kind : Kind) (tag : Tag) (n : ℕ) (words : List ℕ) → other ≢ cpu → words_after_move cpu words (raises other kind tag n) ≡ words }
+    ensures follow { (cpu tags : ℕ) (words : List ℕ) (before now : List Move) → length words ≡ 2 * tags → ((kind : Kind) (t : ℕ) → t < tags → slice_index words (word_place kind t) ≡ moved_word before cpu kind t) → (kind : Kind) (t : ℕ) → t < tags → slice_index (words_after_moves cpu words now) (word_place kind t) ≡ moved_word (before ++ now) cpu kind t }
 {}
