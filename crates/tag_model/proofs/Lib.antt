@@ -27,6 +27,8 @@ pub mod ScanRow
 pub mod Steps
 pub mod Still
 pub mod StopLaw
+pub mod SweepSteps
+pub mod Accounted
 pub mod Stops
 pub mod Swept
 pub mod Told

@@ -1,5 +1,5 @@
 -- The module list's records: which range a tag lies in, and that a swept tag lies in a dead record's range.
-use Rattle.std.proofs.Common.{◌≡◌, ℕ, ◌+◌, ◌<◌, ◌≤◌, ◌==◌, ◌&&◌, ◌||◌, nat_lt, nat_le, List, [], sum_by, count_by, refl, sym, ap, subst, arith, Bool, true, false, not, eqb-true, ltb-true, leb-true, eq-eqb, le-leb, lt-ltb, if◌then◌else◌}
+use Rattle.std.proofs.Common.{◌≡◌, ℕ, ◌+◌, ◌<◌, ◌≤◌, ◌==◌, ◌&&◌, ◌||◌, nat_lt, nat_le, List, sum_by, count_by, refl, sym, ap, subst, arith, Bool, true, false, not, eqb-true, ltb-true, leb-true, eq-eqb, le-leb, lt-ltb, if◌then◌else◌}
 use Rattle.std.specs.List.{list_any, list_all}
 use Rattle.std.proofs.lemmas.Bool.{and_parts, and_from, false≢true, true_from_ne_false}
 use Rattle.std.proofs.lemmas.List.Sums.{sum_by-le-sum_by}
@@ -13,6 +13,7 @@ use Rattle.tag_model.specs.declared.state.Record.{Record}
 use Rattle.tag_model.specs.declared.state.Sweep.{Sweep}
 use Rattle.tag_model.specs.declared.state.Sweep.TheVariants as sweep
 use Rattle.tag_model.specs.Laws.{is_listed, covers_listed, covers_read, is_calls, has_cleared, are_dead, rises_from, sweep_fits}
+use Rattle.tag_model.specs.Sweeping.{ids_left}
 use Rattle.tag_model.specs.WordState.{in_range, records_with, record_fits}
 use Rattle.tag_model.proofs.Found.{found, found_any, all_at, any_at, count_at, count_more, count_apart}
 
@@ -68,12 +69,6 @@ dead_above_kernel k t records fits h =
     omega (arith, fit, within)
 
 -- ---- the sweep's list
-
--- the ids that a sweep has still on its list
-abbrev pub ids_left : Sweep → List ℕ
-ids_left sweep.None = []
-ids_left (sweep.Done left) = left
-ids_left (sweep.Reading left reader) = left
 
 pub left_fits : (k : Shape) (s : Sweep) (records : List Record) → sweep_fits k s records ≡ true → (rises_from 0 (ids_left s) ≡ true) × (are_dead (ids_left s) records ≡ true)
 left_fits k sweep.None records e = (refl, refl)

@@ -23,7 +23,8 @@ use Rattle.tag_model.specs.WordState.{one_if, Every, in_range, records_with, run
 use Rattle.tag_model.proofs.Found.{found, found_any, none_fails, all_at, any_at, count_at}
 use Rattle.tag_model.proofs.Parts.{TheList}
 use Rattle.tag_model.proofs.Alike.{of_records, of_reading, of_cleared, of_fits, of_field}
-use Rattle.tag_model.proofs.Lists.{dead_at, loaded_at, in_range_means, in_range_from, apart_counts, dead_above_kernel, Apart, ids_left, left_fits, cleared_is_listed, covered_is_dead, read_is_dead, records_more, record_fits_means}
+use Rattle.tag_model.specs.Sweeping.{ids_left}
+use Rattle.tag_model.proofs.Lists.{dead_at, loaded_at, in_range_means, in_range_from, apart_counts, dead_above_kernel, Apart, left_fits, cleared_is_listed, covered_is_dead, read_is_dead, records_more, record_fits_means}
 
 -- the part stands among the parts
 abbrev pub Holds : List Part → Part → Type 0

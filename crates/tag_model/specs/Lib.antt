@@ -11,3 +11,4 @@ pub mod Index
 pub mod RefMoves
 pub mod ListMachine
 pub mod Telling
+pub mod Sweeping

@@ -14,5 +14,6 @@ pub mod safe_laws;
 pub mod shape;
 pub mod state;
 pub mod sum_laws;
+pub mod sweep_laws;
 #[cfg(test)]
 mod tests;
