@@ -1,8 +1,9 @@
 -- The module area and its entries.
-use Rattle.std.specs.Prelude.{ℕ, ◌≡◌, ◌≢◌, ◌+◌, ◌<◌, ◌≤◌, List, length, All, AllPairs}
+use Rattle.std.specs.Prelude.{ℕ, ◌≡◌, ◌≢◌, ◌+◌, ◌<◌, ◌≤◌, ◌&&◌, Bool, not, nat_le, List, length, All, AllPairs, Option}
+use Rattle.std.specs.List.{find, list_any, range_with_len}
 use Rattle.module_area.specs.declared.entry.Entry.{Entry}
 use Rattle.module_area.specs.declared.entry.State.TheVariants.{Loaded}
-use Rattle.module_area.specs.Entries.{IsFree, IsMet, AreApart}
+use Rattle.module_area.specs.Entries.{IsFree, IsMet, AreApart, meets}
 
 -- a book: its entries, the area's first tag, and how many tags the area has
 pub record Area : Type 0 where
@@ -46,3 +47,11 @@ pub record IsBook (area : Area) : Type 0 where
   pub apart : AllPairs AreApart area.entries
   pub loaded_once : AllPairs DifferIfLoaded area.entries
   pub small : area.first + area.tags ≤ 1024
+
+-- whether the `size` tags from the start on lie in the area, and no entry covers one of them
+abbrev pub is_free_at : Area → ℕ → ℕ → Bool
+is_free_at area size start = nat_le (start + size) (area.first + area.tags) && not (list_any (λ e. meets e start size) area.entries)
+
+-- the least such start, if there is one
+abbrev pub least_start : Area → ℕ → Option ℕ
+least_start area size = find (is_free_at area size) (range_with_len area.first (area.tags + 1))

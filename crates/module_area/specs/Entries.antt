@@ -1,5 +1,5 @@
 -- Entries of modules, and the tags in their ranges.
-use Rattle.std.specs.Prelude.{ℕ, ◌≡◌, ◌+◌, ◌-◌, ◌<◌, ◌≤◌, ◌==◌, Bool, false, ◌&&◌, not, nat_le, nat_lt, if◌then◌else◌, List, Option, Any, map, filter}
+use Rattle.std.specs.Prelude.{ℕ, ◌≡◌, ◌+◌, ◌-◌, ◌<◌, ◌≤◌, ◌==◌, Bool, true, false, ◌&&◌, not, nat_le, nat_lt, if◌then◌else◌, List, Option, Any, map, filter}
 use Rattle.std.specs.List.{find}
 use Rattle.std.specs.Option.{option_map}
 use Rattle.module_area.specs.declared.entry.Entry.{Entry}
@@ -78,3 +78,8 @@ left entry = record entry { users = entry.users - 1 }
 -- the entry, unloaded, with its range kept
 abbrev pub kept : Entry → Entry
 kept entry = record entry { state = Dead }
+
+-- whether an entry of the state is unloaded, with its range kept
+abbrev pub is_dead : State → Bool
+is_dead Loaded = false
+is_dead Dead = true
