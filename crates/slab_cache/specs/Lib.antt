@@ -1,0 +1,6 @@
+pub mod Blocks
+pub mod Classes
+pub mod Slabs
+pub mod Storage
+pub mod Giving
+pub mod Homing
