@@ -1,0 +1,10 @@
+pub mod Parts
+pub mod Live
+pub mod Worker
+pub mod Machine
+pub mod Barrier
+pub mod Printed
+pub mod Play
+pub mod Answer
+pub mod Left
+pub mod Rows

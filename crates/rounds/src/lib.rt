@@ -1,0 +1,6 @@
+//! Rounds of a trace: what `run` means.
+#![tactic(auto)]
+
+mod laws;
+
+pub use laws::{a_worked_trace_leaves_these, worked_traces_print_these};
