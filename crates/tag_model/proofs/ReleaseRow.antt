@@ -91,7 +91,7 @@ sum_of_id f id (r ∷ records) = go (not (r.id == id)) refl (sum_of_id f id reco
         omega (arith, sum_by-cons (λ (x : Record). if x.id == id then f x else 0) r (others id records))
     go false is h = h
 
-ids_others : (id : ℕ) (records : List Record) → ids_of (others id records) ≡ without_id id (ids_of records)
+pub ids_others : (id : ℕ) (records : List Record) → ids_of (others id records) ≡ without_id id (ids_of records)
 ids_others id [] = refl
 ids_others id (r ∷ records) = go (not (r.id == id)) (ids_others id records)
   where

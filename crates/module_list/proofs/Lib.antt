@@ -1,0 +1,6 @@
+pub mod At
+pub mod Bare
+pub mod Keeps
+pub mod Changes
+pub mod Written
+pub mod Methods
