@@ -15,14 +15,15 @@ use Rattle.tag_model.specs.Shape.{IsChecked}
 use Rattle.tag_model.specs.WordState.{is_cpu, is_place, is_place_at, is_list, is_pass, part_fits, word_place, word_of, counted, counted_of, records_with, runs_with, notes_with, users_of, one_if, in_range, next_id}
 use Rattle.tag_model.specs.Laws.{Safe, OneOfEach, SumLaw, CoverLaw, SweepLaw, list_fits, is_reading, cleared, same_run, same_note, runs_of_cpu}
 use Rattle.tag_model.specs.declared.state.Hand.{Hand}
-use Rattle.core_steps.specs.declared.op.TheConstants.{KEY_END}
-use Rattle.core_steps.specs.Machine.{Waiting, machine_of, nothing_waits, reserves, run_at}
+use Rattle.cpu_ops.specs.declared.op.TheConstants.{KEY_END}
+use Rattle.cpu_ops.specs.Machine.{Waiting, Machine, machine_of, fresh_machine, no_places, nothing_waits, reserves, run_at}
 use Rattle.tag_model.specs.declared.state.Run.{Run}
 use Rattle.tag_model.specs.declared.state.ListPart.{ListPart}
 use Rattle.tag_model.specs.declared.state.Sweep.TheVariants as sweep
 use Rattle.tag_section.specs.Section.{Section}
-use Rattle.core_steps.specs.Modules.{ModuleTable}
-use Rattle.core_steps.specs.CoreState.{cpu_part, cpu_parts, place_parts, runs_in, runs_of, state_with, fresh_modules, AreModules, SectionsFitShape, IsCore, IsReadyAt}
+use Rattle.module_ops.specs.Modules.{ModuleTable}
+use Rattle.core_steps.specs.CoreState.{cpu_part, cpu_parts, place_parts, runs_in, runs_of, state_with, AreModules, SectionsFitShape, IsCore, IsReadyAt}
+use Rattle.module_ops.specs.Modules.{fresh_modules}
 use Rattle.core_steps.proofs.Parts.{sum_both, cpu_parts-same}
 
 -- no CPU is inside a module, and none was ever loaded
@@ -208,11 +209,10 @@ modules_fresh k sections checked = record {
   goes_on = λ on. cc;
 }
 
-pub core_fresh : (k : Shape) (sections : List Section) (hands : List (Option Hand)) (places : List Held) (waiting : List Waiting) (words : List (List ℕ)) (ms : ModuleTable) → IsChecked k → SectionsFitShape k sections
-    → hands ≡ replicate k.cpus None → places ≡ replicate KEY_END held.None → waiting ≡ replicate k.cpus nothing_waits → words ≡ replicate k.cpus (replicate (2 * k.tags) 0) → ms ≡ fresh_modules k (length sections)
-    → IsCore (record { shape = k; sections = sections; machine = machine_of hands places waiting; words = words; modules = ms })
-unfolding state_with no_inside
-core_fresh k sections hands places waiting words ms checked fit h p w o l = rw (h, p, w, o, l) (record {
+pub core_fresh : (k : Shape) (sections : List Section) (m : Machine) (words : List (List ℕ)) (ms : ModuleTable) → IsChecked k → SectionsFitShape k sections
+    → m ≡ fresh_machine k.cpus → words ≡ replicate k.cpus (replicate (2 * k.tags) 0) → ms ≡ fresh_modules k (length sections) → IsCore (record { shape = k; sections = sections; machine = m; words = words; modules = ms })
+unfolding state_with no_inside no_places
+core_fresh k sections m words ms checked fit h o l = rw (h, o, l) (record {
   shape = checked;
   sections = fit;
   machine = record {

@@ -1,4 +1,5 @@
 -- A CPU that goes into a module and out of it: the list can count it, it is a step of the step rules, and the modules stay in their bounds.
+use Rattle.std.specs.Prelude.{is_some}
 use Rattle.std.proofs.Common.{◌≡◌, ◌≢◌, ℕ, ◌<◌, ◌==◌, List, [], ◌∷◌, ◌++◌, length, set, if◌then◌else◌, cond, inl, inr, refl, sym, ap, ◌∙◌, subst, arith, Bool, true, false, not, Option, Some, None}
 use Rattle.std.proofs.lemmas.Bool.{cases_eq}
 use Rattle.std.proofs.lemmas.List.{length-set, get_or-set_same, get_or-set_other}
@@ -17,11 +18,13 @@ use Rattle.core_list.specs.ListState.{ListState, IsList, is_some_entry, entered_
 use Rattle.core_list.proofs.Changes.{enters_run, leaves_run, row-enters, row-leaves}
 use Rattle.core_list.proofs.Kept.{list_entered, list_left}
 use Rattle.tag_section.specs.Section.{Section}
-use Rattle.core_steps.specs.declared.op.StepRefused.TheVariants.{ListHeld, NotRunning, Inside, NotLoaded}
-use Rattle.core_steps.specs.declared.step.WordStep.TheVariants.{GoIn, GoOut}
-use Rattle.core_steps.specs.Machine.{hand_at, run_at, is_run, enter_refusal, leave_refusal}
-use Rattle.core_steps.specs.Modules.{ModuleTable, goes_in, goes_out, inside_at, modules_after, scene_at, section_len, with_inside}
-use Rattle.core_steps.specs.CoreState.{AreModules, CoreState, EntryFits, IsCore, RunFits, HasUserLeft, ListFits, runs_in, runs_of, state_of, state_with, state_after}
+use Rattle.cpu_ops.specs.declared.refused.StepRefused.TheVariants.{ListHeld, NotRunning, Inside, NotLoaded}
+use Rattle.cpu_ops.specs.declared.step.WordStep.TheVariants.{GoIn, GoOut}
+use Rattle.cpu_ops.specs.Machine.{hand_at, run_at, enter_refusal, leave_refusal}
+use Rattle.module_ops.specs.Modules.{ModuleTable, goes_in, goes_out, inside_at, modules_after, scene_at, with_inside}
+use Rattle.cpu_ops.specs.MayQueue.{section_len}
+use Rattle.core_steps.specs.CoreState.{AreModules, CoreState, EntryFits, IsCore, RunFits, runs_in, runs_of, state_of, state_with, state_after}
+use Rattle.module_ops.specs.Modules.{HasUserLeft, ListFits}
 use Rattle.core_steps.proofs.InsideFacts.{IsInside, put_in, taken_out}
 use Rattle.core_steps.proofs.RunsTold.{own_part, list_becomes, own_becomes, safe_after, run_entry, LoadedEntry, loaded_is, none_on, user_left, has_user}
 
@@ -35,17 +38,17 @@ pub record MayEnter (ms : ModuleTable) (cpu section : ℕ) : Type 0 where
 pub may_enter : (ms : ModuleTable) (cpu section : ℕ) → enter_refusal (scene_at ms cpu) section ≡ None → MayEnter ms cpu section
 may_enter ms cpu section none = free ms.manager.under_way none
   where
-    slot : (e : Entry) → loaded_entry section ms.list ≡ Some e → (o : Option Run) → run_at (inside_at ms cpu) section ≡ o → (if is_run o then Some (Inside section) else None) ≡ None → MayEnter ms cpu section
+    slot : (e : Entry) → loaded_entry section ms.list ≡ Some e → (o : Option Run) → run_at (inside_at ms cpu) section ≡ o → (if is_some o then Some (Inside section) else None) ≡ None → MayEnter ms cpu section
     slot e is None outside none = record { entry = e; is = is; outside = outside }
     slot e is (Some r) outside none = absurd (cc)
 
     named : (o : Option Entry) → loaded_entry section ms.list ≡ o
-        → (if not (is_some_entry o) then Some (NotLoaded section) else (if is_run (run_at (inside_at ms cpu) section) then Some (Inside section) else None)) ≡ None → MayEnter ms cpu section
+        → (if not (is_some_entry o) then Some (NotLoaded section) else (if is_some (run_at (inside_at ms cpu) section) then Some (Inside section) else None)) ≡ None → MayEnter ms cpu section
     named None is none = absurd (cc)
     named (Some e) is none = slot e is (run_at (inside_at ms cpu) section) refl none
 
     free : (held : Bool)
-        → (if held then Some ListHeld else (if not (is_some_entry (loaded_entry section ms.list)) then Some (NotLoaded section) else (if is_run (run_at (inside_at ms cpu) section) then Some (Inside section) else None))) ≡ None
+        → (if held then Some ListHeld else (if not (is_some_entry (loaded_entry section ms.list)) then Some (NotLoaded section) else (if is_some (run_at (inside_at ms cpu) section) then Some (Inside section) else None))) ≡ None
         → MayEnter ms cpu section
     free true none = absurd (cc)
     free false none = named (loaded_entry section ms.list) refl none
@@ -53,11 +56,11 @@ may_enter ms cpu section none = free ms.manager.under_way none
 pub may_leave : (ms : ModuleTable) (cpu section : ℕ) → leave_refusal (scene_at ms cpu) section ≡ None → IsInside (inside_at ms cpu) section
 may_leave ms cpu section none = free ms.manager.under_way none
   where
-    slot : (o : Option Run) → run_at (inside_at ms cpu) section ≡ o → (if not (is_run o) then Some (NotRunning section) else None) ≡ None → IsInside (inside_at ms cpu) section
+    slot : (o : Option Run) → run_at (inside_at ms cpu) section ≡ o → (if not (is_some o) then Some (NotRunning section) else None) ≡ None → IsInside (inside_at ms cpu) section
     slot None is none = absurd (cc)
     slot (Some r) is none = record { run = r; is = is }
 
-    free : (held : Bool) → (if held then Some ListHeld else (if not (is_run (run_at (inside_at ms cpu) section)) then Some (NotRunning section) else None)) ≡ None → IsInside (inside_at ms cpu) section
+    free : (held : Bool) → (if held then Some ListHeld else (if not (is_some (run_at (inside_at ms cpu) section)) then Some (NotRunning section) else None)) ≡ None → IsInside (inside_at ms cpu) section
     free true none = absurd (cc)
     free false none = slot (run_at (inside_at ms cpu) section) refl none
 

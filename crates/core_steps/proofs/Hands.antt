@@ -8,8 +8,8 @@ use Rattle.tag_model.specs.declared.state.Held.TheVariants as held
 use Rattle.tag_model.specs.declared.state.Kind.{Kind}
 use Rattle.tag_model.specs.declared.limits.TheConstants.{SIZE_END}
 use Rattle.tag_model.specs.Reference.{hand_counts_of, held_counts_of, held_fits, hand_fits, is_settled}
-use Rattle.core_steps.specs.declared.op.StepRefused.{StepRefused}
-use Rattle.core_steps.specs.Machine.{in_hand, put_down, bytes_in, size_of, is_counted, less_bytes}
+use Rattle.cpu_ops.specs.declared.refused.StepRefused.{StepRefused}
+use Rattle.cpu_ops.specs.Machine.{in_hand, put_down, bytes_in, size_of, is_counted, less_bytes}
 use Rattle.core_steps.specs.CoreState.{HoldsReference, HoldsCall, settled_hand}
 use Rattle.core_steps.proofs.Takes.{CanWrite, InHand, CanSubtractBytes, CanSubtractCall}
 

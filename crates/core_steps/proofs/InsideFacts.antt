@@ -3,7 +3,7 @@ use Rattle.std.proofs.Common.{◌≡◌, ℕ, zero, suc, ◌<◌, List, [], ◌�
 use Rattle.std.proofs.lemmas.List.Elements.{Contains-append_right}
 use Rattle.std.proofs.lemmas.Option.{none-some, same_Some}
 use Rattle.tag_model.specs.declared.state.Run.{Run}
-use Rattle.core_steps.specs.Machine.{run_at}
+use Rattle.cpu_ops.specs.Machine.{run_at}
 use Rattle.core_steps.specs.CoreState.{runs_in}
 
 -- the runs without one, and with it

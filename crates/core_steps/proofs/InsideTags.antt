@@ -1,4 +1,5 @@
 -- The tag of an allocation of a CPU that is inside a module.
+use Rattle.std.specs.Prelude.{is_some}
 use Rattle.std.proofs.Common.{◌≡◌, ℕ, ◌+◌, ◌<◌, ◌==◌, ◌&&◌, ◌^◌, ◌⊎◌, nat_lt, List, length, if◌then◌else◌, inl, inr, refl, sym, ap, ◌∙◌, subst, arith, Bool, true, false, not, Option, Some, None, eq-eqb, eqb-true, ne_eqb, lt-ltb}
 use Rattle.std.specs.List.{list_any}
 use Rattle.std.proofs.lemmas.Bool.{and_from, false≢true, cond-true, cond-false, cases_Bool}
@@ -11,12 +12,15 @@ use Rattle.tag_model.proofs.Found.{any_at}
 use Rattle.tag_model.proofs.Lists.{in_range_from}
 use Rattle.tag_section.specs.Section.{AreSections, tag_limit}
 use Rattle.tag_section.specs.declared.sections.TheConstants.{KERNEL_TAG_LIMIT, MODULE_TAG_LIMIT}
-use Rattle.core_steps.specs.declared.op.Op.{Op}
-use Rattle.core_steps.specs.declared.op.Op.TheVariants.{Open, Close, Split, Swap, Trim, Enter, Leave, Load, Unload, Clean}
-use Rattle.core_steps.specs.declared.op.StepRefused.TheVariants.{KeyUsed, NotRunning}
-use Rattle.core_steps.specs.Machine.{Waiting, is_used, open_refusal, run_at, is_outside, is_run, kernel_tag, module_tag, tag_in}
-use Rattle.core_steps.specs.Modules.{inside_at, section_len}
-use Rattle.core_steps.specs.CoreState.{CoreState, IsCore, IsOp, TagFits, runs_of}
+use Rattle.cpu_ops.specs.declared.op.CpuOp.{CpuOp}
+use Rattle.cpu_ops.specs.declared.op.CpuOp.TheVariants.{Open, Close, Split, Swap, Trim, Enter, Leave}
+use Rattle.cpu_ops.specs.declared.refused.StepRefused.TheVariants.{KeyUsed, NotRunning}
+use Rattle.cpu_ops.specs.Machine.{Waiting, is_used, open_refusal, run_at, is_outside, kernel_tag, module_tag, tag_in}
+use Rattle.module_ops.specs.Modules.{inside_at}
+use Rattle.cpu_ops.specs.MayQueue.{section_len}
+use Rattle.core_steps.specs.CoreState.{CoreState, IsCore, runs_of}
+use Rattle.cpu_ops.specs.MayQueue.{IsOp}
+use Rattle.cpu_ops.specs.Machine.{TagFits}
 use Rattle.core_steps.proofs.InsideFacts.{IsInside, taken_out}
 
 -- ---- the tag of an allocation
@@ -25,11 +29,11 @@ use Rattle.core_steps.proofs.InsideFacts.{IsInside, taken_out}
 pub not_outside : (section : ℕ) (inside : List (Option Run)) → is_outside section inside ≡ false → (section ≡ 0) ⊎ ((section == 0) ≡ false) × IsInside inside section
 not_outside section inside e = at (section == 0) refl e
   where
-    slot : (section == 0) ≡ false → (o : Option Run) → run_at inside section ≡ o → not (is_run o) ≡ false → (section ≡ 0) ⊎ ((section == 0) ≡ false) × IsInside inside section
+    slot : (section == 0) ≡ false → (o : Option Run) → run_at inside section ≡ o → not (is_some o) ≡ false → (section ≡ 0) ⊎ ((section == 0) ≡ false) × IsInside inside section
     slot other None is e = absurd (cc)
     slot other (Some r) is e = inr (other, record { run = r; is = is })
 
-    at : (b : Bool) → (section == 0) ≡ b → (not b && not (is_run (run_at inside section))) ≡ false → (section ≡ 0) ⊎ ((section == 0) ≡ false) × IsInside inside section
+    at : (b : Bool) → (section == 0) ≡ b → (not b && not (is_some (run_at inside section))) ≡ false → (section ≡ 0) ⊎ ((section == 0) ≡ false) × IsInside inside section
     at true kernel e = inl (eqb-true section 0 kernel)
     at false other e = slot other (run_at inside section) refl e
 
@@ -72,7 +76,7 @@ begins_in s core cpu below section index has in_it = elim (not_outside section (
 outside_tag : (section : ℕ) (inside : List (Option Run)) (index : ℕ) → is_outside section inside ≡ true → tag_in inside section index ≡ kernel_tag index
 outside_tag section inside index e = at (section == 0) (run_at inside section) e
   where
-    at : (b : Bool) (o : Option Run) → (not b && not (is_run o)) ≡ true → (if b then kernel_tag index else module_tag o index) ≡ kernel_tag index
+    at : (b : Bool) (o : Option Run) → (not b && not (is_some o)) ≡ true → (if b then kernel_tag index else module_tag o index) ≡ kernel_tag index
     at true o e = refl
     at false None e = refl
     at false (Some r) e = absurd (false≢true e)
@@ -96,7 +100,7 @@ tag_number s core cpu below sections section index within has = elim (cases_Bool
   | inr in_it ↦ number_inside s core cpu below section index has in_it
 ]
 
-pub tag_fits : (s : CoreState) → IsCore s → (cpu : ℕ) → cpu < s.shape.cpus → AreSections s.sections → (op : Op) → IsOp s.sections op → TagFits op (inside_at s.modules cpu)
+pub tag_fits : (s : CoreState) → IsCore s → (cpu : ℕ) → cpu < s.shape.cpus → AreSections s.sections → (op : CpuOp) → IsOp s.sections op → TagFits op (inside_at s.modules cpu)
 tag_fits s core cpu below sections (Open key section index size) ok = tag_number s core cpu below sections section index ok.has_section ok.in_section
 tag_fits s core cpu below sections (Close key) ok = tt
 tag_fits s core cpu below sections (Split key parts first) ok = tt
@@ -104,6 +108,3 @@ tag_fits s core cpu below sections (Swap one two) ok = tt
 tag_fits s core cpu below sections (Trim key bytes) ok = tt
 tag_fits s core cpu below sections (Enter section) ok = tt
 tag_fits s core cpu below sections (Leave section) ok = tt
-tag_fits s core cpu below sections (Load section) ok = tt
-tag_fits s core cpu below sections (Unload section) ok = tt
-tag_fits s core cpu below sections Clean ok = tt

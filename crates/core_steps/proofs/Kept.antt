@@ -1,9 +1,8 @@
 -- A core stays a core: what a step of a CPU leaves of the whole machine.
-use Rattle.std.proofs.Common.{◌≡◌, ◌≢◌, ℕ, ◌+◌, ◌-◌, ◌*◌, ◌<◌, ◌≤◌, ◌==◌, nat_lt, cond, Bool, List, [], ◌∷◌, ◌++◌, length, set, refl, sym, ap, ◌∙◌, subst, arith, Option, Some, None, true, false, inl, inr, OnOk, OnErr, Result, Ok, Err, MatchOption, take, drop}
-use Rattle.std.proofs.Math.Seq.{take-append_seam}
-use Rattle.core_steps.specs.declared.op.Event.{Event}
-use Rattle.core_steps.specs.declared.op.Event.TheVariants.{Stepped}
-use Rattle.core_steps.specs.declared.op.StepRefused.{StepRefused}
+use Rattle.std.proofs.Common.{◌≡◌, ◌≢◌, ℕ, ◌+◌, ◌-◌, ◌*◌, ◌<◌, ◌≤◌, ◌==◌, nat_lt, cond, Bool, List, [], ◌∷◌, ◌++◌, length, get_or, set, refl, sym, ap, ◌∙◌, subst, arith, Option, Some, None, true, false, inl, inr, Result, Ok, Err, OnOk, MatchOption, IsOkAnd}
+use Rattle.std.proofs.lemmas.Option.{same_Some}
+use Rattle.module_ops.specs.declared.event.Event.{Event}
+use Rattle.cpu_ops.specs.declared.refused.StepRefused.{StepRefused}
 use Rattle.tag_model.specs.StepRules.{StepsWith}
 use Rattle.tag_model.specs.StepRules.StepsWith.{alone}
 use Rattle.tag_model.proofs.Steps.{safe-steps_with}
@@ -11,38 +10,41 @@ use Rattle.tag_model.specs.declared.state.Run.{Run}
 use Rattle.tag_model.specs.declared.state.Part.{Part}
 use Rattle.tag_section.specs.Section.{Section}
 use Rattle.core_steps.specs.declared.op.Actor.TheVariants as actor
-use Rattle.core_steps.specs.Modules.{ModuleTable, inside_at, scene_at, modules_after}
+use Rattle.module_ops.specs.Modules.{ModuleTable, inside_at, scene_at, modules_after}
 use Rattle.core_steps.proofs.GoesIn.{goes_in_row, goes_out_row, goes_in_modules, goes_out_modules, in_fits, out_fits}
 use Rattle.core_steps.proofs.InsideTags.{begins_in}
 use Rattle.std.proofs.lemmas.Bool.Decides.{nat_tests}
 use Rattle.std.proofs.lemmas.Bool.{cases_eq, cases_lt}
-use Rattle.std.proofs.lemmas.List.{get_or-set_same, get_or-set_other, length-set, get_or_past, set-get_or}
+use Rattle.std.proofs.lemmas.List.{get_or-set_same, get_or-set_other, length-set, get_or_past, set-get_or, get_or_default}
 use Rattle.std.proofs.lemmas.List.Folds.{list_any_at}
 use Rattle.tag_model.specs.declared.shape.Shape.{Shape}
 use Rattle.tag_model.specs.declared.state.Hand.{Hand}
 use Rattle.tag_model.specs.declared.state.Held.{Held}
-use Rattle.core_steps.specs.declared.op.Op.{Op}
-use Rattle.core_steps.specs.declared.op.Op.TheVariants.{Open, Close, Split, Swap, Trim, Enter, Leave, Load, Unload, Clean}
-use Rattle.core_steps.specs.declared.step.WordStep.TheVariants.{GoIn, GoOut}
-use Rattle.core_steps.specs.declared.step.WordStep.{WordStep}
-use Rattle.core_steps.specs.declared.op.StepRefused.TheVariants.{NoStep}
-use Rattle.core_steps.specs.Machine.{Waiting, Machine, Scene, machine_after, places_after, part_key, share_step, nothing_waits, reserves, names_key, hand_at, waiting_at, step_of, hand_after, words_after, advanced, first_refusal, refusal_in, refusal_of, stepped_by, after_step, step_count, KeysFit, HasCall, CanTake, machine_of}
-use Rattle.core_steps.specs.CoreState.{CoreState, AreModules, SectionsFit, TagFits, ListFits, runs_in, runs_of, list_parts, state_with, state_after, modules_stepped, modules_after_step, refused, stepped, IsReady, IsReadyAt, IsMachine, IsCore, IsUnderWay, IsOp, words_at, words_stepped, words_after_step, state_of, CanGo, CanStep}
+use Rattle.cpu_ops.specs.declared.op.CpuOp.{CpuOp}
+use Rattle.cpu_ops.specs.declared.op.CpuOp.TheVariants.{Open, Close, Split, Swap, Trim, Enter, Leave}
+use Rattle.cpu_ops.specs.declared.step.WordStep.TheVariants.{GoIn, GoOut}
+use Rattle.cpu_ops.specs.declared.step.WordStep.{WordStep}
+use Rattle.cpu_ops.specs.declared.refused.StepRefused.TheVariants.{NoStep}
+use Rattle.cpu_ops.specs.Machine.{Waiting, Machine, Scene, machine_after, places_after, part_key, share_step, nothing_waits, reserves, names_key, hand_at, waiting_at, step_of, hand_after, words_after, advanced, first_refusal, refusal_in, refusal_of, stepped_by, after_step, step_in, step_at, own_words_in, own_words_after, step_count, KeysFit, HasCall, CanTake}
+use Rattle.core_steps.specs.CoreState.{CoreState, AreModules, runs_in, runs_of, list_parts, state_with, state_after, modules_stepped, modules_after_step, refused, stepped, IsReady, IsReadyAt, IsMachine, IsCore, IsUnderWay, words_stepped, words_after_step, state_of}
+use Rattle.cpu_ops.specs.Machine.{SectionsFit, TagFits, CanGo, CanStep}
+use Rattle.module_ops.specs.Modules.{ListFits, words_at}
+use Rattle.cpu_ops.specs.MayQueue.{IsOp}
 use Rattle.core_steps.proofs.Ready.{Next, next, others_ready, free_key, running_first}
 use Rattle.core_steps.proofs.Takes.{IsRuled, places_fit, leads_step, hand_seen, can_take, length-places_after, length-words_after}
 
 -- ---- keys
 
-reserved_after : (key done : ℕ) (op : Op) (ops : List Op) → reserves key (advanced (op ∷ ops) done) ≡ true → names_key key op ≡ true
+reserved_after : (key done : ℕ) (op : CpuOp) (ops : List CpuOp) → reserves key (advanced (op ∷ ops) done) ≡ true → names_key key op ≡ true
 reserved_after key done op ops h = grind (arith, nat_tests)
 
-reserved_now : (key done : ℕ) (op : Op) (ops : List Op) → 0 < done → names_key key op ≡ true → reserves key (record { ops = op ∷ ops; done = done }) ≡ true
+reserved_now : (key done : ℕ) (op : CpuOp) (ops : List CpuOp) → 0 < done → names_key key op ≡ true → reserves key (record { ops = op ∷ ops; done = done }) ≡ true
 reserved_now key done op ops some names = grind (arith, nat_tests)
 
-names_reserved : (key done : ℕ) (op : Op) (ops : List Op) → reserves key (record { ops = op ∷ ops; done = done }) ≡ true → names_key key op ≡ true
+names_reserved : (key done : ℕ) (op : CpuOp) (ops : List CpuOp) → reserves key (record { ops = op ∷ ops; done = done }) ≡ true → names_key key op ≡ true
 names_reserved key done op ops h = grind (arith, nat_tests)
 
-module _ (cpus : ℕ) (sections : List Section) (scene : Scene) (m : Machine) (cpu : ℕ) (op : Op) (ops : List Op) (done : ℕ) (is : IsMachine cpus sections m) (below : cpu < cpus)
+module _ (cpus : ℕ) (sections : List Section) (scene : Scene) (m : Machine) (cpu : ℕ) (op : CpuOp) (ops : List CpuOp) (done : ℕ) (is : IsMachine cpus sections m) (below : cpu < cpus)
     (waits : waiting_at m cpu ≡ record { ops = op ∷ ops; done = done }) (free : done ≡ 0 → first_refusal m.places m.waiting scene op ≡ None)
     (k : Shape) (inside : List (Option Run)) (n : Next k sections inside m.places (hand_at m cpu) op ops done) where
   -- no other CPU reserves a key that the op names
@@ -132,7 +134,7 @@ words_kept tags words cpu step hand below each i within = elim (cases_eq i cpu) 
 
 -- ---- the modules stay where the op neither goes in nor out
 
-abbrev pub stays_out : Op → Bool
+abbrev pub stays_out : CpuOp → Bool
 stays_out (Open key section index size) = true
 stays_out (Close key) = true
 stays_out (Split key parts first) = true
@@ -140,9 +142,6 @@ stays_out (Swap one two) = true
 stays_out (Trim key bytes) = true
 stays_out (Enter section) = false
 stays_out (Leave section) = false
-stays_out (Load section) = true
-stays_out (Unload section) = true
-stays_out Clean = true
 
 module _ (ms : ModuleTable) (cpu done : ℕ) (hand : Option Hand) (places : List Held) (inside : List (Option Run)) where
   stay_if : (b : Bool) (x y : WordStep) → modules_after x ms cpu ≡ ms → modules_after y ms cpu ≡ ms → modules_after (cond b x y) ms cpu ≡ ms
@@ -153,7 +152,7 @@ module _ (ms : ModuleTable) (cpu done : ℕ) (hand : Option Hand) (places : List
   stay_share key None = refl
   stay_share key (Some h) = refl
 
-  pub stay_out : (op : Op) → stays_out op ≡ true → modules_after (step_of op done hand places inside) ms cpu ≡ ms
+  pub stay_out : (op : CpuOp) → stays_out op ≡ true → modules_after (step_of op done hand places inside) ms cpu ≡ ms
   stay_out (Open key section index size) out = stay_if (done == 0) _ _ refl (stay_if (done == 1) _ _ refl refl)
   stay_out (Close key) out = stay_if (done == 0) _ _ refl (stay_if (done == 1) _ _ refl refl)
   stay_out (Split key parts first) out = stay_if (done == 0) _ _ refl (stay_if (nat_lt done parts) _ _ refl (stay_share (part_key key first (done - parts)) hand))
@@ -161,13 +160,10 @@ module _ (ms : ModuleTable) (cpu done : ℕ) (hand : Option Hand) (places : List
   stay_out (Trim key bytes) out = stay_if (done == 0) _ _ refl (stay_if (done == 1) _ _ refl refl)
   stay_out (Enter section) out = absurd (cc)
   stay_out (Leave section) out = absurd (cc)
-  stay_out (Load section) out = refl
-  stay_out (Unload section) out = refl
-  stay_out Clean out = refl
 
 -- ---- a core stays a core
 
-pub next_at : (s : CoreState) (cpu : ℕ) (op : Op) (ops : List Op) (done : ℕ) → IsCore s → cpu < s.shape.cpus → IsReady s.sections s.machine.places (hand_at s.machine cpu) (op ∷ ops) done
+pub next_at : (s : CoreState) (cpu : ℕ) (op : CpuOp) (ops : List CpuOp) (done : ℕ) → IsCore s → cpu < s.shape.cpus → IsReady s.sections s.machine.places (hand_at s.machine cpu) (op ∷ ops) done
     → (done ≡ 0 → first_refusal s.machine.places s.machine.waiting (scene_at s.modules cpu) op ≡ None)
     → Next s.shape s.sections (inside_at s.modules cpu) s.machine.places (hand_at s.machine cpu) op ops done
 unfolding state_with
@@ -177,17 +173,17 @@ next_at s cpu op ops done core below ready free =
     (λ section index has in_section inside. let b = begins_in s core cpu below section index in_section inside in record { allowed = b.0; below = b.1 })
 
 -- the machine, its words and its modules after a step, by the ops that wait
-abbrev after_ops : ℕ → CoreState → ℕ → List Op → ℕ → List Part
+abbrev after_ops : ℕ → CoreState → ℕ → List CpuOp → ℕ → List Part
 after_ops reads s cpu ops done = state_of reads (stepped_by s.machine (inside_at s.modules cpu) cpu ops done) (words_stepped s.machine (inside_at s.modules cpu) s.words cpu ops done) (modules_stepped s.machine s.modules cpu ops done)
 
 module _ (s : CoreState) (cpu : ℕ) (core : IsCore s) (below : cpu < s.shape.cpus) where
   here : List (Option Run)
   here = inside_at s.modules cpu
 
-  pub stay_now : (op : Op) (done : ℕ) → stays_out op ≡ true → modules_after (step_of op done (hand_at s.machine cpu) s.machine.places (inside_at s.modules cpu)) s.modules cpu ≡ s.modules
+  pub stay_now : (op : CpuOp) (done : ℕ) → stays_out op ≡ true → modules_after (step_of op done (hand_at s.machine cpu) s.machine.places (inside_at s.modules cpu)) s.modules cpu ≡ s.modules
   stay_now op done out = stay_out s.modules cpu done (hand_at s.machine cpu) s.machine.places (inside_at s.modules cpu) op out
 
-  word_leads : (reads : ℕ) (op : Op) (ops : List Op) (done : ℕ) → IsRuled s.shape (runs_in (inside_at s.modules cpu)) (step_of op done (hand_at s.machine cpu) s.machine.places (inside_at s.modules cpu)) (hand_at s.machine cpu) s.machine.places
+  word_leads : (reads : ℕ) (op : CpuOp) (ops : List CpuOp) (done : ℕ) → IsRuled s.shape (runs_in (inside_at s.modules cpu)) (step_of op done (hand_at s.machine cpu) s.machine.places (inside_at s.modules cpu)) (hand_at s.machine cpu) s.machine.places
       → modules_after (step_of op done (hand_at s.machine cpu) s.machine.places (inside_at s.modules cpu)) s.modules cpu ≡ s.modules
       → StepsWith s.shape (state_after reads s) (after_ops reads s cpu (op ∷ ops) done)
   unfolding state_with
@@ -199,14 +195,14 @@ module _ (s : CoreState) (cpu : ℕ) (core : IsCore s) (below : cpu < s.shape.cp
       rw stay (alone led.steps)
 
   -- what goes in or out changes neither hands nor words
-  list_leads : (reads : ℕ) (op : Op) (ops : List Op) (step : WordStep) (w : Waiting) (next : ModuleTable)
+  list_leads : (reads : ℕ) (op : CpuOp) (ops : List CpuOp) (step : WordStep) (w : Waiting) (next : ModuleTable)
       → hand_after step (hand_at s.machine cpu) ≡ hand_at s.machine cpu → words_after step (hand_at s.machine cpu) (words_at s.words cpu) ≡ words_at s.words cpu → places_after step s.machine.places ≡ s.machine.places
       → StepsWith s.shape (state_after reads s) (state_of reads s.machine s.words next)
       → StepsWith s.shape (state_after reads s) (state_of reads (machine_after s.machine cpu step w) (set s.words cpu (words_after step (hand_at s.machine cpu) (words_at s.words cpu))) next)
   unfolding state_with
   list_leads reads op ops step w next hand words places led = rw (hand, words, places, set-get_or s.machine.hands cpu None, set-get_or s.words cpu []) led
 
-  leads_op : (reads : ℕ) (op : Op) (ops : List Op) (done : ℕ) → IsReady s.sections s.machine.places (hand_at s.machine cpu) (op ∷ ops) done
+  leads_op : (reads : ℕ) (op : CpuOp) (ops : List CpuOp) (done : ℕ) → IsReady s.sections s.machine.places (hand_at s.machine cpu) (op ∷ ops) done
       → (done ≡ 0 → first_refusal s.machine.places s.machine.waiting (scene_at s.modules cpu) op ≡ None)
       → Next s.shape s.sections (inside_at s.modules cpu) s.machine.places (hand_at s.machine cpu) op ops done
       → StepsWith s.shape (state_after reads s) (after_ops reads s cpu (op ∷ ops) done)
@@ -223,12 +219,9 @@ module _ (s : CoreState) (cpu : ℕ) (core : IsCore s) (below : cpu < s.shape.cp
       let first : done ≡ 0 = omega (arith, ready.0.within) in
       list_leads reads (Leave section) ops (GoOut section) (advanced (Leave section ∷ ops) done) (modules_after (GoOut section) s.modules cpu) refl refl refl
       (goes_out_row s core cpu below section ready.1.has_section (free first) n.ruled reads)
-  leads_op reads (Load section) ops done ready free n = elim ready.1 [ ]
-  leads_op reads (Unload section) ops done ready free n = elim ready.1 [ ]
-  leads_op reads Clean ops done ready free n = elim ready.1 [ ]
 
   -- the modules are some again
-  modules_op : (op : Op) (ops : List Op) (done : ℕ) → IsReady s.sections s.machine.places (hand_at s.machine cpu) (op ∷ ops) done
+  modules_op : (op : CpuOp) (ops : List CpuOp) (done : ℕ) → IsReady s.sections s.machine.places (hand_at s.machine cpu) (op ∷ ops) done
       → (done ≡ 0 → first_refusal s.machine.places s.machine.waiting (scene_at s.modules cpu) op ≡ None)
       → AreModules s.shape s.sections (modules_stepped s.machine s.modules cpu (op ∷ ops) done)
   modules_op (Open key section index size) ops done ready free = rw (stay_now (Open key section index size) done refl) core.modules
@@ -238,12 +231,9 @@ module _ (s : CoreState) (cpu : ℕ) (core : IsCore s) (below : cpu < s.shape.cp
   modules_op (Trim key bytes) ops done ready free = rw (stay_now (Trim key bytes) done refl) core.modules
   modules_op (Enter section) ops done ready free = let first : done ≡ 0 = omega (arith, ready.0.within) in goes_in_modules s core cpu below section ready.1.has_section (free first)
   modules_op (Leave section) ops done ready free = let first : done ≡ 0 = omega (arith, ready.0.within) in goes_out_modules s core cpu below section ready.1.has_section (free first)
-  modules_op (Load section) ops done ready free = elim ready.1 [ ]
-  modules_op (Unload section) ops done ready free = elim ready.1 [ ]
-  modules_op Clean ops done ready free = elim ready.1 [ ]
 
 -- the core after a step that isn't refused, by the ops that wait
-record Goes (s : CoreState) (cpu : ℕ) (ops : List Op) (done : ℕ) : Type 0 where
+record Goes (s : CoreState) (cpu : ℕ) (ops : List CpuOp) (done : ℕ) : Type 0 where
   steps : (reads : ℕ) → StepsWith s.shape (state_after reads s) (after_ops reads s cpu ops done)
   core : IsCore (record s {
     machine = stepped_by s.machine (inside_at s.modules cpu) cpu ops done;
@@ -251,10 +241,10 @@ record Goes (s : CoreState) (cpu : ℕ) (ops : List Op) (done : ℕ) : Type 0 wh
     modules = modules_stepped s.machine s.modules cpu ops done;
   })
 
-pub first_passes : (m : Machine) (scene : Scene) (op : Op) (ops : List Op) (done : ℕ) → refusal_in m scene (op ∷ ops) done ≡ None → done ≡ 0 → first_refusal m.places m.waiting scene op ≡ None
+pub first_passes : (m : Machine) (scene : Scene) (op : CpuOp) (ops : List CpuOp) (done : ℕ) → refusal_in m scene (op ∷ ops) done ≡ None → done ≡ 0 → first_refusal m.places m.waiting scene op ≡ None
 first_passes m scene op ops done none e = let at_start : refusal_in m scene (op ∷ ops) 0 ≡ None = subst (λ (d : ℕ). refusal_in m scene (op ∷ ops) d ≡ None) e none in at_start
 
-goes : (s : CoreState) (cpu : ℕ) (ops : List Op) (done : ℕ) → IsCore s → cpu < s.shape.cpus → waiting_at s.machine cpu ≡ record { ops = ops; done = done } → refusal_in s.machine (scene_at s.modules cpu) ops done ≡ None → Goes s cpu ops done
+goes : (s : CoreState) (cpu : ℕ) (ops : List CpuOp) (done : ℕ) → IsCore s → cpu < s.shape.cpus → waiting_at s.machine cpu ≡ record { ops = ops; done = done } → refusal_in s.machine (scene_at s.modules cpu) ops done ≡ None → Goes s cpu ops done
 goes s cpu [] done core below waits none = cc
 goes s cpu (op ∷ ops) done core below waits none =
     let inside = inside_at s.modules cpu in
@@ -291,7 +281,7 @@ gone s cpu core none = elim (cases_lt cpu s.shape.cpus) [
 ]
 
 -- what the next step reads and writes is there
-done_below : (places : List Held) (hand : Option Hand) (op : Op) (done : ℕ) → IsUnderWay places hand op done → done < step_count op
+done_below : (places : List Held) (hand : Option Hand) (op : CpuOp) (done : ℕ) → IsUnderWay places hand op done → done < step_count op
 done_below places hand (Open key section index size) done under = under.within
 done_below places hand (Close key) done under = under.within
 done_below places hand (Split key parts first) done under = under.within
@@ -299,11 +289,8 @@ done_below places hand (Swap one two) done under = under.within
 done_below places hand (Trim key bytes) done under = under.within
 done_below places hand (Enter section) done under = under.within
 done_below places hand (Leave section) done under = under.within
-done_below places hand (Load section) done under = under.within
-done_below places hand (Unload section) done under = under.within
-done_below places hand Clean done under = under.within
 
-keys_fit : (sections : List Section) (op : Op) → IsOp sections op → KeysFit op
+keys_fit : (sections : List Section) (op : CpuOp) → IsOp sections op → KeysFit op
 keys_fit n (Open key section index size) is = is.key_below
 keys_fit n (Close key) is = is.key_below
 keys_fit n (Split key parts first) is = let two = is.two_parts in (is.key_below, omega arith, omega (arith, is.last_below))
@@ -311,11 +298,8 @@ keys_fit n (Swap one two) is = (is.first.key_below, is.second.key_below)
 keys_fit n (Trim key bytes) is = is.key_below
 keys_fit n (Enter section) is = tt
 keys_fit n (Leave section) is = tt
-keys_fit n (Load section) is = tt
-keys_fit n (Unload section) is = tt
-keys_fit n Clean is = tt
 
-sections_fit : (sections : List Section) (op : Op) → IsOp sections op → SectionsFit op (length sections)
+sections_fit : (sections : List Section) (op : CpuOp) → IsOp sections op → SectionsFit op (length sections)
 sections_fit n (Open key section index size) is = is.has_section
 sections_fit n (Close key) is = tt
 sections_fit n (Split key parts first) is = tt
@@ -323,9 +307,6 @@ sections_fit n (Swap one two) is = tt
 sections_fit n (Trim key bytes) is = tt
 sections_fit n (Enter section) is = is.has_section
 sections_fit n (Leave section) is = is.has_section
-sections_fit n (Load section) is = tt
-sections_fit n (Unload section) is = tt
-sections_fit n Clean is = tt
 
 has_call : (s : CoreState) (cpu : ℕ) → IsCore s → cpu < s.shape.cpus → (hand : Option Hand) → hand_at s.machine cpu ≡ hand → HasCall hand
 unfolding state_with
@@ -334,10 +315,10 @@ has_call s cpu core below (Some h) is =
     (hand_seen s.shape s.machine s.words (runs_of s.modules) (list_parts 0 [] s.modules.list) cpu h core.shape (core.machine.hands ∙ sym core.words) (omega (arith, core.machine.hands)) core.safe is).fits.some
 
 module _ (s : CoreState) (cpu : ℕ) (core : IsCore s) (below : cpu < s.shape.cpus) where
-  step_now : Op → ℕ → WordStep
+  step_now : CpuOp → ℕ → WordStep
   step_now op done = step_of op done (hand_at s.machine cpu) s.machine.places (inside_at s.modules cpu)
 
-  word_takes : (op : Op) (done : ℕ) → IsRuled s.shape (runs_in (inside_at s.modules cpu)) (step_of op done (hand_at s.machine cpu) s.machine.places (inside_at s.modules cpu)) (hand_at s.machine cpu) s.machine.places
+  word_takes : (op : CpuOp) (done : ℕ) → IsRuled s.shape (runs_in (inside_at s.modules cpu)) (step_of op done (hand_at s.machine cpu) s.machine.places (inside_at s.modules cpu)) (hand_at s.machine cpu) s.machine.places
       → CanTake (step_of op done (hand_at s.machine cpu) s.machine.places (inside_at s.modules cpu)) (hand_at s.machine cpu) (length (words_at s.words cpu)) (length s.machine.places)
   unfolding state_with
   word_takes op done ruled =
@@ -346,7 +327,7 @@ module _ (s : CoreState) (cpu : ℕ) (core : IsCore s) (below : cpu < s.shape.cp
       (λ h is. hand_seen s.shape s.machine s.words (runs_of s.modules) (list_parts 0 [] s.modules.list) cpu h core.shape (core.machine.hands ∙ sym core.words) (omega (arith, core.machine.hands)) core.safe is)
       ruled
 
-  op_takes : (op : Op) (ops : List Op) (done : ℕ) → IsReady s.sections s.machine.places (hand_at s.machine cpu) (op ∷ ops) done
+  op_takes : (op : CpuOp) (ops : List CpuOp) (done : ℕ) → IsReady s.sections s.machine.places (hand_at s.machine cpu) (op ∷ ops) done
       → Next s.shape s.sections (inside_at s.modules cpu) s.machine.places (hand_at s.machine cpu) op ops done
       → CanTake (step_of op done (hand_at s.machine cpu) s.machine.places (inside_at s.modules cpu)) (hand_at s.machine cpu) (length (words_at s.words cpu)) (length s.machine.places)
   op_takes (Open key section index size) ops done ready n = word_takes (Open key section index size) done n.ruled
@@ -356,9 +337,6 @@ module _ (s : CoreState) (cpu : ℕ) (core : IsCore s) (below : cpu < s.shape.cp
   op_takes (Trim key bytes) ops done ready n = word_takes (Trim key bytes) done n.ruled
   op_takes (Enter section) ops done ready n = tt
   op_takes (Leave section) ops done ready n = tt
-  op_takes (Load section) ops done ready n = tt
-  op_takes (Unload section) ops done ready n = tt
-  op_takes Clean ops done ready n = tt
 
   fits_if : (b : Bool) (x y : WordStep) → ListFits x s.modules cpu → ListFits y s.modules cpu → ListFits (cond b x y) s.modules cpu
   fits_if true x y h g = h
@@ -368,7 +346,7 @@ module _ (s : CoreState) (cpu : ℕ) (core : IsCore s) (below : cpu < s.shape.cp
   fits_share key None = tt
   fits_share key (Some h) = tt
 
-  op_fits : (op : Op) (ops : List Op) (done : ℕ) → IsReady s.sections s.machine.places (hand_at s.machine cpu) (op ∷ ops) done
+  op_fits : (op : CpuOp) (ops : List CpuOp) (done : ℕ) → IsReady s.sections s.machine.places (hand_at s.machine cpu) (op ∷ ops) done
       → (done ≡ 0 → first_refusal s.machine.places s.machine.waiting (scene_at s.modules cpu) op ≡ None)
       → ListFits (step_of op done (hand_at s.machine cpu) s.machine.places (inside_at s.modules cpu)) s.modules cpu
   op_fits (Open key section index size) ops done ready free = fits_if (done == 0) _ _ tt (fits_if (done == 1) _ _ tt tt)
@@ -378,11 +356,8 @@ module _ (s : CoreState) (cpu : ℕ) (core : IsCore s) (below : cpu < s.shape.cp
   op_fits (Trim key bytes) ops done ready free = fits_if (done == 0) _ _ tt (fits_if (done == 1) _ _ tt tt)
   op_fits (Enter section) ops done ready free = let first : done ≡ 0 = omega (arith, ready.0.within) in in_fits s core cpu below section ready.1.has_section (free first)
   op_fits (Leave section) ops done ready free = let first : done ≡ 0 = omega (arith, ready.0.within) in out_fits s core cpu below section ready.1.has_section
-  op_fits (Load section) ops done ready free = tt
-  op_fits (Unload section) ops done ready free = tt
-  op_fits Clean ops done ready free = tt
 
-  tag_fits : (op : Op) → IsOp s.sections op → first_refusal s.machine.places s.machine.waiting (scene_at s.modules cpu) op ≡ None → TagFits op (inside_at s.modules cpu)
+  tag_fits : (op : CpuOp) → IsOp s.sections op → first_refusal s.machine.places s.machine.waiting (scene_at s.modules cpu) op ≡ None → TagFits op (inside_at s.modules cpu)
   tag_fits (Open key section index size) is free =
       let b = begins_in s core cpu below section index is.in_section (running_first s.machine.places s.machine.waiting (inside_at s.modules cpu) key section free) in
       omega (arith, b.1, core.shape.few_tags)
@@ -392,11 +367,8 @@ module _ (s : CoreState) (cpu : ℕ) (core : IsCore s) (below : cpu < s.shape.cp
   tag_fits (Trim key bytes) is free = tt
   tag_fits (Enter section) is free = tt
   tag_fits (Leave section) is free = tt
-  tag_fits (Load section) is free = tt
-  tag_fits (Unload section) is free = tt
-  tag_fits Clean is free = tt
 
-  can_step : (ops : List Op) (done : ℕ) → IsReady s.sections s.machine.places (hand_at s.machine cpu) ops done → CanStep s.machine s.modules s.words cpu ops done
+  can_step : (ops : List CpuOp) (done : ℕ) → IsReady s.sections s.machine.places (hand_at s.machine cpu) ops done → CanStep s.machine (scene_at s.modules cpu) (words_at s.words cpu) cpu ops done
   can_step [] done ready = tt
   can_step (op ∷ ops) done ready = (
     keys_fit s.sections op ready.1,
@@ -406,18 +378,28 @@ module _ (s : CoreState) (cpu : ℕ) (core : IsCore s) (below : cpu < s.shape.cp
     λ none.
         let free = first_passes s.machine (scene_at s.modules cpu) op ops done none in
         let n = next_at s cpu op ops done core below ready free in
-        (op_takes op ops done ready n, op_fits op ops done ready free, λ e. tag_fits op ready.1 (free e)),
+        (op_takes op ops done ready n, λ e. tag_fits op ready.1 (free e)),
   )
 
-pub can_go : (s : CoreState) (cpu : ℕ) → IsCore s → CanGo s.machine s.modules s.words cpu
-can_go s cpu core = record {
-  hands = core.machine.hands ∙ sym core.machine.waiting;
-  places = core.machine.places;
-  words = core.words ∙ sym core.machine.waiting;
-  inside = core.modules.cpus ∙ sym core.machine.waiting;
-  step = λ below. let within : cpu < s.shape.cpus = omega (arith, core.machine.waiting) in
-      can_step s cpu core within (waiting_at s.machine cpu).ops (waiting_at s.machine cpu).done (core.machine.ready cpu within);
-}
+  pub can_go : CanGo s.machine (scene_at s.modules cpu) (words_at s.words cpu) cpu
+  can_go = record {
+    below = omega (arith, core.machine.waiting);
+    hands = core.machine.hands ∙ sym core.machine.waiting;
+    step = can_step (waiting_at s.machine cpu).ops (waiting_at s.machine cpu).done (core.machine.ready cpu below);
+    apart = λ other key within ne mine yours. core.machine.apart cpu other key below (omega (arith, core.machine.waiting)) (λ e. ne (sym e)) mine yours;
+  }
+
+  -- what the step changes of the modules is what the next step says, and the list can count it
+  step_changes : (step : WordStep) (ops : List CpuOp) (done : ℕ) → IsReady s.sections s.machine.places (hand_at s.machine cpu) ops done → refusal_in s.machine (scene_at s.modules cpu) ops done ≡ None
+      → step_in s.machine (inside_at s.modules cpu) cpu ops done ≡ Some step → ListFits step s.modules cpu × (modules_stepped s.machine s.modules cpu ops done ≡ modules_after step s.modules cpu)
+  step_changes step [] done ready none is = cc
+  step_changes step (op ∷ ops) done ready none is =
+      let free = first_passes s.machine (scene_at s.modules cpu) op ops done none in
+      let same : step_of op done (hand_at s.machine cpu) s.machine.places (inside_at s.modules cpu) ≡ step = same_Some _ step is in
+      (subst (λ (x : WordStep). ListFits x s.modules cpu) same (op_fits op ops done ready free), ap (λ (x : WordStep). modules_after x s.modules cpu) same)
+
+  pub changes : (step : WordStep) → refused s (actor.Cpu cpu) ≡ None → step_at s.machine (inside_at s.modules cpu) cpu ≡ Some step → ListFits step s.modules cpu × (modules_after_step s.machine s.modules cpu ≡ modules_after step s.modules cpu)
+  changes step none is = step_changes step (waiting_at s.machine cpu).ops (waiting_at s.machine cpu).done (core.machine.ready cpu below) none is
 
 -- ---- what `go` leaves, by its answer
 
@@ -429,25 +411,37 @@ pub result_none : (o : Option StepRefused) (event e : Event) → Answers o event
 result_none None event e h = refl
 result_none (Some r) event e h = cc
 
--- what a call left is what the CPU's step leaves, or what was there
-abbrev pub LeftOf : CoreState → ℕ → Machine → List (List ℕ) → ModuleTable → Result Event StepRefused → Type 0
-LeftOf s cpu m words ms r =
-    OnOk r ((m ≡ after_step s.machine (inside_at s.modules cpu) cpu) × (words ≡ words_after_step s.machine (inside_at s.modules cpu) s.words cpu) × (ms ≡ modules_after_step s.machine s.modules cpu))
+-- a step that is told isn't refused
+pub told_none : (o : Option StepRefused) (step : Option WordStep) (given : WordStep) → MatchOption o (IsOkAnd {E = StepRefused} (Ok given) (λ x. step ≡ Some x)) (λ why. ◌≡◌ {A = Result WordStep StepRefused} (Ok given) (Err why)) → (o ≡ None) × (step ≡ Some given)
+told_none None step given h = (refl, h)
+told_none (Some why) step given h = cc
 
-module _ (s : CoreState) (cpu : ℕ) (hands : List (Option Hand)) (places : List Held) (waiting : List Waiting) (words : List (List ℕ)) (ms : ModuleTable) (core : IsCore s) where
-  pub core_after : (r : Result Event StepRefused) → Answers (refused s (actor.Cpu cpu)) Stepped r → LeftOf s cpu (machine_of hands places waiting) words ms r
-      → OnErr r ((hands ≡ s.machine.hands) × (places ≡ s.machine.places) × (waiting ≡ s.machine.waiting) × (words ≡ s.words) × (ms ≡ s.modules))
-      → IsCore (record s { machine = machine_of hands places waiting; words = words; modules = ms })
-  core_after (Ok e) answer ok err =
-      let g = gone s cpu core (result_none _ Stepped e answer) in
-      rw (ok.0, ok.1, ok.2) g.core
-  core_after (Err e) answer ok err = rw (err.0, err.1, err.2, err.3, err.4) core
+pub told_why : (o : Option StepRefused) (step : Option WordStep) (why : StepRefused) → MatchOption o (IsOkAnd {T = WordStep} (Err why) (λ x. step ≡ Some x)) (λ e. ◌≡◌ {A = Result WordStep StepRefused} (Err why) (Err e)) → o ≡ Some why
+told_why None step why h = absurd h
+told_why (Some e) step why h = cc
 
-  pub row_after : (reads : ℕ) (r : Result Event StepRefused) → Answers (refused s (actor.Cpu cpu)) Stepped r → LeftOf s cpu (machine_of hands places waiting) words ms r
-      → OnOk r (StepsWith s.shape (state_after reads s) (state_of reads (machine_of hands places waiting) words ms))
-  row_after reads (Ok e) answer ok = let g = gone s cpu core (result_none _ Stepped e answer) in rw (ok.0, ok.1, ok.2) (g.steps reads)
-  row_after reads (Err e) answer ok = tt
+-- the words after a step
+pub words_are : (m : Machine) (inside : List (Option Run)) (words : List (List ℕ)) (cpu : ℕ) → words_after_step m inside words cpu ≡ set words cpu (own_words_after m inside (words_at words cpu) cpu)
+words_are m inside words cpu = go (waiting_at m cpu).ops (waiting_at m cpu).done
+  where
+    go : (ops : List CpuOp) (done : ℕ) → words_stepped m inside words cpu ops done ≡ set words cpu (own_words_in (step_in m inside cpu ops done) (hand_at m cpu) (words_at words cpu))
+    go [] done = sym (set-get_or words cpu [])
+    go (op ∷ ops) done = refl
 
--- a slice that is written whole
-pub written : {A : Type 0} → (n : ℕ) (new items : List A) → length new ≡ n → take n (new ++ drop (length new) items) ≡ new
-written n new items len = subst (λ (k : ℕ). take k (new ++ drop (length new) items) ≡ new) len (take-append_seam new (drop (length new) items))
+-- what the parts of a core are after a step that is told is the core after the CPU's step
+module _ (s : CoreState) (cpu : ℕ) (core : IsCore s) (below : cpu < s.shape.cpus) (r : Result WordStep StepRefused) (step : WordStep) (m : Machine) (own next : List ℕ) (is : r ≡ Ok step)
+    (answer : MatchOption (refused s (actor.Cpu cpu)) (IsOkAnd r (λ x. step_at s.machine (inside_at s.modules cpu) cpu ≡ Some x)) (λ why. r ≡ Err why)) where
+  pub goes_free : (refused s (actor.Cpu cpu) ≡ None) × (step_at s.machine (inside_at s.modules cpu) cpu ≡ Some step)
+  goes_free = told_none _ _ step (subst (λ (x : Result WordStep StepRefused). MatchOption (refused s (actor.Cpu cpu)) (IsOkAnd x (λ y. step_at s.machine (inside_at s.modules cpu) cpu ≡ Some y)) (λ why. x ≡ Err why)) is answer)
+
+  pub goes_fits : ListFits step s.modules cpu
+  goes_fits = (changes s cpu core below step goes_free.0 goes_free.1).0
+
+  pub goes_is : (ms : ModuleTable) → own ≡ get_or s.words cpu own → OnOk r ((m ≡ after_step s.machine (inside_at s.modules cpu) cpu) × (next ≡ own_words_after s.machine (inside_at s.modules cpu) own cpu)) → ms ≡ modules_after step s.modules cpu
+      → record s { machine = m; words = set s.words cpu next; modules = ms } ≡ stepped s (actor.Cpu cpu)
+  goes_is ms own_is on_ok ms_is =
+      let ok = subst (λ (x : Result WordStep StepRefused). OnOk x ((m ≡ after_step s.machine (inside_at s.modules cpu) cpu) × (next ≡ own_words_after s.machine (inside_at s.modules cpu) own cpu))) is on_ok in
+      let same : own ≡ words_at s.words cpu = own_is ∙ get_or_default s.words cpu own [] (omega (arith, core.words)) in
+      let words : set s.words cpu next ≡ words_after_step s.machine (inside_at s.modules cpu) s.words cpu =
+      ap (set s.words cpu) (ok.1 ∙ ap (λ (w : List ℕ). own_words_after s.machine (inside_at s.modules cpu) w cpu) same) ∙ sym (words_are s.machine (inside_at s.modules cpu) s.words cpu) in
+      rw (ok.0, words, ms_is, ← (changes s cpu core below step goes_free.0 goes_free.1).1) refl

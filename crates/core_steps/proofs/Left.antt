@@ -4,22 +4,24 @@ use Rattle.std.proofs.lemmas.Bool.Decides.{nat_tests}
 use Rattle.std.proofs.lemmas.Bool.{cases_lt}
 use Rattle.std.proofs.lemmas.List.{get_or-set_same, get_or_past}
 use Rattle.std.proofs.lemmas.List.Sums.{sum_by-cons}
-use Rattle.core_steps.specs.declared.op.Op.{Op}
-use Rattle.core_steps.specs.declared.op.Event.{Event}
-use Rattle.core_steps.specs.declared.op.StepRefused.{StepRefused}
-use Rattle.core_steps.specs.declared.op.StepRefused.TheVariants.{NoStep}
-use Rattle.core_steps.specs.Machine.{Machine, Waiting, nothing_waits, waiting_at, step_count, advanced, refusal_in, stepped_by, after_step}
-use Rattle.core_steps.specs.CoreState.{CoreState, IsCore, CanStep, refused}
+use Rattle.cpu_ops.specs.declared.op.CpuOp.{CpuOp}
+use Rattle.module_ops.specs.declared.event.Event.{Event}
+use Rattle.cpu_ops.specs.declared.refused.StepRefused.{StepRefused}
+use Rattle.cpu_ops.specs.declared.refused.StepRefused.TheVariants.{NoStep}
+use Rattle.cpu_ops.specs.Machine.{Machine, Waiting, nothing_waits, waiting_at, step_count, advanced, refusal_in, stepped_by, after_step}
+use Rattle.core_steps.specs.CoreState.{CoreState, IsCore, refused}
+use Rattle.cpu_ops.specs.Machine.{CanStep}
 use Rattle.core_steps.specs.declared.op.Actor.TheVariants as actor
-use Rattle.core_steps.specs.declared.op.Event.TheVariants.{Stepped}
-use Rattle.core_steps.specs.Modules.{ModuleTable, inside_at, scene_at}
-use Rattle.core_steps.proofs.Kept.{Answers, LeftOf, can_go, result_none}
+use Rattle.module_ops.specs.declared.event.Event.TheVariants.{Stepped}
+use Rattle.module_ops.specs.Modules.{ModuleTable, inside_at, scene_at}
+use Rattle.core_steps.proofs.Kept.{can_go}
+use Rattle.module_ops.specs.Modules.{words_at}
 use Rattle.core_steps.specs.StepsLeft.{cpu_steps_left}
 
 left_of : Waiting → ℕ
 left_of w = sum_by step_count w.ops - w.done
 
-left_advanced : (op : Op) (ops : List Op) (done : ℕ) → done < step_count op → left_of (record { ops = op ∷ ops; done = done }) ≡ left_of (advanced (op ∷ ops) done) + 1
+left_advanced : (op : CpuOp) (ops : List CpuOp) (done : ℕ) → done < step_count op → left_of (record { ops = op ∷ ops; done = done }) ≡ left_of (advanced (op ∷ ops) done) + 1
 unfolding left_of
 left_advanced op ops done within = let all = sum_by-cons step_count op ops in by_test (done + 1 == step_count op) refl
   where
@@ -27,36 +29,30 @@ left_advanced op ops done within = let all = sum_by-cons step_count op ops in by
     by_test true e = let f : done + 1 ≡ step_count op = grind (arith, nat_tests) in rw e (omega (arith, sum_by-cons step_count op ops))
     by_test false e = rw e (omega (arith, sum_by-cons step_count op ops))
 
-left_stepped : (words : List (List ℕ)) (m : Machine) (ms : ModuleTable) (cpu : ℕ) (ops : List Op) (done : ℕ) → cpu < length m.waiting → CanStep m ms words cpu ops done → refusal_in m (scene_at ms cpu) ops done ≡ None
+left_stepped : (own : List ℕ) (m : Machine) (ms : ModuleTable) (cpu : ℕ) (ops : List CpuOp) (done : ℕ) → cpu < length m.waiting → CanStep m (scene_at ms cpu) own cpu ops done → refusal_in m (scene_at ms cpu) ops done ≡ None
     → left_of (record { ops = ops; done = done }) ≡ left_of (waiting_at (stepped_by m (inside_at ms cpu) cpu ops done) cpu) + 1
-left_stepped words m ms cpu [] done below can none = cc
-left_stepped words m ms cpu (op ∷ ops) done below can none =
+left_stepped own m ms cpu [] done below can none = cc
+left_stepped own m ms cpu (op ∷ ops) done below can none =
     left_advanced op ops done can.1
     ∙ ap (λ (w : Waiting). left_of w + 1) (sym (get_or-set_same m.waiting cpu (advanced (op ∷ ops) done) nothing_waits below))
 
-left_after : (s : CoreState) (cpu : ℕ) → IsCore s → refused s (actor.Cpu cpu) ≡ None → cpu_steps_left s.machine cpu ≡ cpu_steps_left (after_step s.machine (inside_at s.modules cpu) cpu) cpu + 1
+pub left_after : (s : CoreState) (cpu : ℕ) → IsCore s → refused s (actor.Cpu cpu) ≡ None → cpu_steps_left s.machine cpu ≡ cpu_steps_left (after_step s.machine (inside_at s.modules cpu) cpu) cpu + 1
 unfolding left_of
 left_after s cpu core none = elim (cases_lt cpu (length s.machine.waiting)) [
-  | inl below ↦ left_stepped s.words s.machine s.modules cpu (waiting_at s.machine cpu).ops (waiting_at s.machine cpu).done below ((can_go s cpu core).step below) none
+  | inl below ↦ left_stepped (words_at s.words cpu) s.machine s.modules cpu (waiting_at s.machine cpu).ops (waiting_at s.machine cpu).done below (can_go s cpu core (omega (arith, core.machine.waiting))).step none
   | inr past ↦ let bad : refused s (actor.Cpu cpu) ≡ Some NoStep = rw (get_or_past s.machine.waiting cpu nothing_waits past) refl in cc
 ]
 
--- what `go` leaves, by its answer
-pub left_lists : (s : CoreState) (cpu : ℕ) (m : Machine) (words : List (List ℕ)) (ms : ModuleTable) (r : Result Event StepRefused) → IsCore s → Answers (refused s (actor.Cpu cpu)) Stepped r
-    → LeftOf s cpu m words ms r → OnOk r (cpu_steps_left s.machine cpu ≡ cpu_steps_left m cpu + 1)
-left_lists s cpu m words ms (Ok e) core answer ok = rw ok.0 (left_after s cpu core (result_none _ Stepped e answer))
-left_lists s cpu m words ms (Err e) core answer ok = tt
-
-none_waits : (words : List (List ℕ)) (m : Machine) (ms : ModuleTable) (cpu : ℕ) (ops : List Op) (done : ℕ) → CanStep m ms words cpu ops done → left_of (record { ops = ops; done = done }) ≡ 0 → ops ≡ []
+none_waits : (own : List ℕ) (m : Machine) (ms : ModuleTable) (cpu : ℕ) (ops : List CpuOp) (done : ℕ) → CanStep m (scene_at ms cpu) own cpu ops done → left_of (record { ops = ops; done = done }) ≡ 0 → ops ≡ []
 unfolding left_of
-none_waits words m ms cpu [] done can h = refl
-none_waits words m ms cpu (op ∷ ops) done can h = absurd (omega (arith, sum_by-cons step_count op ops, can.1))
+none_waits own m ms cpu [] done can h = refl
+none_waits own m ms cpu (op ∷ ops) done can h = absurd (omega (arith, sum_by-cons step_count op ops, can.1))
 
 -- no step is left exactly where no op waits
 pub left_none : (s : CoreState) (cpu : ℕ) → IsCore s → cpu_steps_left s.machine cpu ≡ 0 → (waiting_at s.machine cpu).ops ≡ []
 unfolding left_of
 left_none s cpu core h = elim (cases_lt cpu (length s.machine.waiting)) [
-  | inl below ↦ none_waits s.words s.machine s.modules cpu (waiting_at s.machine cpu).ops (waiting_at s.machine cpu).done ((can_go s cpu core).step below) h
+  | inl below ↦ none_waits (words_at s.words cpu) s.machine s.modules cpu (waiting_at s.machine cpu).ops (waiting_at s.machine cpu).done (can_go s cpu core (omega (arith, core.machine.waiting))).step h
   | inr past ↦ ap (λ (w : Waiting). w.ops) (get_or_past s.machine.waiting cpu nothing_waits past)
 ]
 

@@ -4,7 +4,6 @@ pub mod Takes
 pub mod Hands
 pub mod Splits
 pub mod Ready
-pub mod Loaded
 pub mod InsideFacts
 pub mod GoesIn
 pub mod Kept
@@ -24,7 +23,6 @@ pub mod ManagerCore
 pub mod ManagerLeft
 pub mod RunsTold
 pub mod InsideTags
-pub mod Sweeping
 pub mod ManagerRelease
 pub mod ManagerTold
 pub mod SweepBounds

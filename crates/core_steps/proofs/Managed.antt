@@ -20,12 +20,15 @@ use Rattle.tag_section.specs.Section.{Section}
 use Rattle.module_area.specs.declared.book.AreaError.{AreaError}
 use Rattle.module_area.specs.declared.entry.Entry.{Entry}
 use Rattle.core_list.specs.ListState.{ListState, left_ids, list_part, records_of, dead_list, load_refusal, loaded, loaded_entry, next_of, released, scanned, swept_list}
-use Rattle.core_steps.specs.Machine.{Machine}
-use Rattle.core_steps.specs.CoreState.{CoreState, IsCore, CanManage, cpu_parts, place_parts, state_with, IsManagerOp, IsModule}
-use Rattle.core_steps.specs.declared.op.Op.{Op}
-use Rattle.core_steps.specs.declared.op.Op.TheVariants.{Open, Close, Split, Swap, Trim, Enter, Leave, Load, Unload, Clean}
-use Rattle.core_steps.specs.declared.op.StepRefused.{StepRefused}
-use Rattle.core_steps.specs.Modules.{ModuleTable, begins_op, is_nothing, load_refused, managed, managed_by, manager_first, manager_reads, manager_refusal, manager_refusal_in, section_len, swept_on, unload_refused, unloads, word_read, words_read, sweep_goes}
+use Rattle.cpu_ops.specs.Machine.{Machine}
+use Rattle.core_steps.specs.CoreState.{CoreState, IsCore, cpu_parts, place_parts, state_with}
+use Rattle.module_ops.specs.Modules.{CanManage, IsManagerOp}
+use Rattle.cpu_ops.specs.MayQueue.{IsModule}
+use Rattle.module_ops.specs.declared.op.ManagerOp.{ManagerOp}
+use Rattle.module_ops.specs.declared.op.ManagerOp.TheVariants.{Load, Unload, Clean}
+use Rattle.cpu_ops.specs.declared.refused.StepRefused.{StepRefused}
+use Rattle.module_ops.specs.Modules.{ModuleTable, begins_op, is_nothing, load_refused, managed, managed_by, manager_first, manager_reads, manager_refusal, manager_refusal_in, swept_on, unload_refused, unloads, word_read, words_read, sweep_goes}
+use Rattle.cpu_ops.specs.MayQueue.{section_len}
 use Rattle.core_steps.proofs.Parts.{becomes_list}
 
 -- ---- the count of reads
@@ -76,7 +79,7 @@ can_manage s core = record {
 -- ---- the kinds of the manager's step
 
 -- what a step of the op, behind which these wait, makes of the modules, and how many words it reads
-pub data Manages (k : Shape) (sections : List Section) (words : List (List ℕ)) (ms : ModuleTable) (op : Op) (ops : List Op) : ℕ → ModuleTable → Type 0 where
+pub data Manages (k : Shape) (sections : List Section) (words : List (List ℕ)) (ms : ModuleTable) (op : ManagerOp) (ops : List ManagerOp) : ℕ → ModuleTable → Type 0 where
   loads : (section : ℕ) → ms.manager.under_way ≡ false → IsModule sections section → load_refusal section (section_len sections section) ms.list ≡ None
       → Manages k sections words ms op ops 0 (record ms { list = loaded section (section_len sections section) ms.list; manager = record { ops = ops; under_way = false } })
   marks_dead : (section : ℕ) (e : Entry) → ms.manager.under_way ≡ false → loaded_entry section ms.list ≡ Some e → e.users ≡ 0 → Manages k sections words ms op ops 0 (swept_on ms op ops (dead_list e.id ms.list))
@@ -89,8 +92,8 @@ none_refused : (section : ℕ) (o : Option AreaError) → option_map (load_refus
 none_refused section None none = refl
 none_refused section (Some why) none = absurd (cc)
 
-module _ (k : Shape) (sections : List Section) (words : List (List ℕ)) (ms : ModuleTable) (ops : List Op) (starts : ms.manager.under_way ≡ false) where
-  unloads_loaded : (section : ℕ) (op : Op) (o : Option Entry) → loaded_entry section ms.list ≡ o → unload_refused section o ≡ None → Manages k sections words ms op ops 0 (unloads ms op ops o)
+module _ (k : Shape) (sections : List Section) (words : List (List ℕ)) (ms : ModuleTable) (ops : List ManagerOp) (starts : ms.manager.under_way ≡ false) where
+  unloads_loaded : (section : ℕ) (op : ManagerOp) (o : Option Entry) → loaded_entry section ms.list ≡ o → unload_refused section o ≡ None → Manages k sections words ms op ops 0 (unloads ms op ops o)
   unloads_loaded section op None is none = absurd (cc)
   unloads_loaded section op (Some e) is none = Manages.marks_dead section e starts is (unused (e.users == 0) refl none)
     where
@@ -98,20 +101,13 @@ module _ (k : Shape) (sections : List Section) (words : List (List ℕ)) (ms : M
       unused true zero none = eqb-true e.users 0 zero
       unused false some none = absurd (cc)
 
-  begins : (op : Op) → IsManagerOp sections op → manager_first sections ms.list op ≡ None → Manages k sections words ms op ops 0 (begins_op sections ms op ops)
+  begins : (op : ManagerOp) → IsManagerOp sections op → manager_first sections ms.list op ≡ None → Manages k sections words ms op ops 0 (begins_op sections ms op ops)
   begins (Load section) is none = Manages.loads section starts is (none_refused section _ none)
   begins (Unload section) is none = unloads_loaded section (Unload section) (loaded_entry section ms.list) refl none
   begins Clean is none = Manages.sweeps starts
-  begins (Open key section index size) is none = absurd is
-  begins (Close key) is none = absurd is
-  begins (Split key parts first) is none = absurd is
-  begins (Swap one two) is none = absurd is
-  begins (Trim key bytes) is none = absurd is
-  begins (Enter section) is none = absurd is
-  begins (Leave section) is none = absurd is
 
 -- the further steps
-goes_on : (k : Shape) (sections : List Section) (words : List (List ℕ)) (ms : ModuleTable) (op : Op) (ops : List Op) → ms.manager.under_way ≡ true → (s : Sweep) → ms.list.sweep ≡ s → is_nothing (next_of s) ≡ false
+goes_on : (k : Shape) (sections : List Section) (words : List (List ℕ)) (ms : ModuleTable) (op : ManagerOp) (ops : List ManagerOp) → ms.manager.under_way ≡ true → (s : Sweep) → ms.list.sweep ≡ s → is_nothing (next_of s) ≡ false
     → Manages k sections words ms op ops (words_read (next_of s)) (swept_on ms op ops (sweep_goes k words ms.list (next_of s)))
 goes_on k sections words ms op ops way sweep.None is some = absurd (cc)
 goes_on k sections words ms op ops way (sweep.Reading left r) is some = Manages.scans left r way is
@@ -120,8 +116,8 @@ goes_on k sections words ms op ops way (sweep.Done (id ∷ left)) is some = Mana
 
 -- the manager's step is of one of these kinds
 pub record ManagesFirst (k : Shape) (sections : List Section) (words : List (List ℕ)) (ms : ModuleTable) : Type 0 where
-  pub op : Op
-  pub ops : List Op
+  pub op : ManagerOp
+  pub ops : List ManagerOp
   pub is : ms.manager.ops ≡ op ∷ ops
   pub step : Manages k sections words ms op ops (manager_reads ms) (managed k sections words ms)
 
@@ -129,12 +125,12 @@ pub manages : (k : Shape) (sections : List Section) (words : List (List ℕ)) (m
     → manager_refusal sections ms ≡ None → ManagesFirst k sections words ms
 manages k sections words ms are on none = by_ops ms.manager.ops refl are none
   where
-    by_way : (op : Op) (ops : List Op) → IsManagerOp sections op → (way : Bool) → ms.manager.under_way ≡ way → cond way None (manager_first sections ms.list op) ≡ None
+    by_way : (op : ManagerOp) (ops : List ManagerOp) → IsManagerOp sections op → (way : Bool) → ms.manager.under_way ≡ way → cond way None (manager_first sections ms.list op) ≡ None
         → Manages k sections words ms op ops (cond way (words_read (next_of ms.list.sweep)) 0) (managed_by k sections words ms (op ∷ ops) way)
     by_way op ops is true way none = goes_on k sections words ms op ops way ms.list.sweep refl (on way)
     by_way op ops is false way none = begins k sections words ms ops way op is none
 
-    by_ops : (ops : List Op) → ms.manager.ops ≡ ops → AllByRecursion (IsManagerOp sections) ops → manager_refusal_in sections ms.list ops ms.manager.under_way ≡ None → ManagesFirst k sections words ms
+    by_ops : (ops : List ManagerOp) → ms.manager.ops ≡ ops → AllByRecursion (IsManagerOp sections) ops → manager_refusal_in sections ms.list ops ms.manager.under_way ≡ None → ManagesFirst k sections words ms
     by_ops [] is are none = absurd (cc)
     by_ops (op ∷ ops) is are none = record {
       op = op;

@@ -1,5 +1,5 @@
 -- A core stays a core after the manager's step, and where an op is queued for the manager.
-use Rattle.std.proofs.Common.{◌≡◌, ◌≢◌, ℕ, ◌==◌, List, [], ◌∷◌, ◌++◌, refl, ◌∙◌, subst, arith, Bool, true, false, not, cond, None, All}
+use Rattle.std.proofs.Common.{◌≡◌, ◌≢◌, ℕ, ◌==◌, List, [], ◌∷◌, ◌++◌, refl, ◌∙◌, subst, arith, Bool, true, false, not, cond, Some, None, All}
 use Rattle.std.specs.List.{AllByRecursion}
 use Rattle.std.proofs.lemmas.List.Elements.{All-map, All-filter, All-push, All-weaker}
 use Rattle.tag_model.specs.declared.shape.Shape.{Shape}
@@ -12,9 +12,11 @@ use Rattle.module_area.specs.Entries.{kept}
 use Rattle.core_list.specs.ListState.{ListState, IsList, dead_list, loaded, new_entry, next_of, records_of, released, released_at, scanned, scanned_at, swept_list}
 use Rattle.core_list.proofs.Kept.{list_dead_marked, list_loaded, list_released, list_scanned, list_swept}
 use Rattle.core_steps.specs.declared.op.Actor.TheVariants as actor
-use Rattle.core_steps.specs.declared.op.Op.{Op}
-use Rattle.core_steps.specs.Modules.{Managing, ModuleTable, is_nothing, managed, managed_on, manager_refusal, section_len, word_read}
-use Rattle.core_steps.specs.CoreState.{AreModules, CoreState, EntryFits, IsCore, IsManagerOp, queued, stepped}
+use Rattle.module_ops.specs.declared.op.ManagerOp.{ManagerOp}
+use Rattle.module_ops.specs.Modules.{Managing, ModuleTable, is_nothing, managed, managed_on, manager_refusal, word_read}
+use Rattle.cpu_ops.specs.MayQueue.{section_len}
+use Rattle.core_steps.specs.CoreState.{AreModules, CoreState, EntryFits, IsCore, queued_manager, stepped}
+use Rattle.module_ops.specs.Modules.{IsManagerOp}
 use Rattle.core_steps.proofs.Managed.{sweep_told, Manages}
 use Rattle.core_steps.proofs.ManagerRow.{managed_first, manager_safe}
 
@@ -70,7 +72,7 @@ record ManagesOn (sections : List Section) (list : ListState) (m : Managing) : T
   some_op : m.under_way ≡ true → m.ops ≢ []
   goes_on : m.under_way ≡ true → is_nothing (next_of list.sweep) ≡ false
 
-manages_on : (sections : List Section) (op : Op) (ops : List Op) (list : ListState) → AllByRecursion (IsManagerOp sections) (op ∷ ops) → ManagesOn sections list (managed_on op ops list)
+manages_on : (sections : List Section) (op : ManagerOp) (ops : List ManagerOp) (list : ListState) → AllByRecursion (IsManagerOp sections) (op ∷ ops) → ManagesOn sections list (managed_on op ops list)
 manages_on sections op ops list are = go (is_nothing (next_of list.sweep)) refl
   where
     go : (b : Bool) → is_nothing (next_of list.sweep) ≡ b → ManagesOn sections list (cond {A = Managing} b (record { ops = ops; under_way = false }) (record { ops = op ∷ ops; under_way = true }))
@@ -91,7 +93,7 @@ modules_with k sections ms list m are keeps on = record {
   goes_on = on.goes_on;
 }
 
-modules_after : (s : CoreState) → IsCore s → (op : Op) (ops : List Op) (n : ℕ) (after : ModuleTable) → AllByRecursion (IsManagerOp s.sections) (op ∷ ops) → Manages s.shape s.sections s.words s.modules op ops n after → AreModules s.shape s.sections after
+modules_after : (s : CoreState) → IsCore s → (op : ManagerOp) (ops : List ManagerOp) (n : ℕ) (after : ModuleTable) → AllByRecursion (IsManagerOp s.sections) (op ∷ ops) → Manages s.shape s.sections s.words s.modules op ops n after → AreModules s.shape s.sections after
 modules_after s core op ops n after are (Manages.loads section starts is none) =
     let l = s.modules.list in
     let size = section_len s.sections section in
@@ -126,16 +128,16 @@ manager_core s core none = record {
 
 -- ---- an op is queued
 
-pub all_push : (P : Op → Type 0) (ops : List Op) (op : Op) → AllByRecursion P ops → P op → AllByRecursion P (ops ++ op ∷ [])
+pub all_push : (P : ManagerOp → Type 0) (ops : List ManagerOp) (op : ManagerOp) → AllByRecursion P ops → P op → AllByRecursion P (ops ++ op ∷ [])
 all_push P [] op are is = (is, tt)
 all_push P (x ∷ ops) op are is = (are.0, all_push P ops op are.1 is)
 
-push_some : (ops : List Op) (op : Op) → ops ++ op ∷ [] ≢ []
+push_some : (ops : List ManagerOp) (op : ManagerOp) → ops ++ op ∷ [] ≢ []
 push_some [] op none = absurd (cc)
 push_some (x ∷ ops) op none = absurd (cc)
 
-pub queued_manager : (s : CoreState) (op : Op) → IsCore s → IsManagerOp s.sections op → IsCore (queued s actor.Manager op)
-queued_manager s op core is = record {
+pub manager_queued : (s : CoreState) (op : ManagerOp) → IsCore s → IsManagerOp s.sections op → IsCore (queued_manager s (Some op))
+manager_queued s op core is = record {
   shape = core.shape;
   sections = core.sections;
   machine = core.machine;

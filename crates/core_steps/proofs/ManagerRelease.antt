@@ -32,10 +32,10 @@ use Rattle.core_list.proofs.Changes.{row-releases}
 use Rattle.core_list.specs.declared.list.Stage.TheVariants.{Done}
 use Rattle.core_list.proofs.Methods.{releases_dead, releasing}
 use Rattle.core_list.proofs.Split.{TheEntry, book_entry_at, records_at, the_entry}
-use Rattle.core_steps.specs.declared.op.Cause.{Cause}
-use Rattle.core_steps.specs.declared.op.Event.TheVariants.{Stepped}
-use Rattle.core_steps.specs.Machine.{Machine, hand_at, held_at}
-use Rattle.core_steps.specs.Modules.{cause_of, event_of_sweep, kept_by, manager_event, manager_refusal, word_read}
+use Rattle.module_ops.specs.declared.event.Cause.{Cause}
+use Rattle.module_ops.specs.declared.event.Event.TheVariants.{Stepped}
+use Rattle.cpu_ops.specs.Machine.{Machine, hand_at, held_at}
+use Rattle.module_ops.specs.Modules.{cause_of, event_of_sweep, kept_by, manager_event, manager_refusal, word_read}
 use Rattle.core_steps.specs.CoreState.{CoreState, IsCore, cpu_part, cpu_parts, list_parts, place_parts, runs_of, state_with, word_state}
 use Rattle.core_steps.specs.Release.{IfReleases, IsReleasable, Names}
 use Rattle.core_steps.proofs.Managed.{list_becomes, sweep_told}

@@ -12,14 +12,15 @@ use Rattle.tag_model.proofs.ScanRow.{reading_fits}
 use Rattle.tag_model.proofs.Steps.{safe-steps_with}
 use Rattle.core_list.specs.ListState.{ListState, dead_list, list_part, loaded, records_of, released, released_at, scanned, scanned_at, swept_list}
 use Rattle.core_list.proofs.Changes.{row-loads, row-marks_dead, row-releases, row-scans}
-use Rattle.core_steps.specs.Machine.{Machine}
-use Rattle.core_steps.specs.declared.op.Op.{Op}
-use Rattle.core_steps.specs.Modules.{ModuleTable, manager_reads, manager_refusal, section_len, word_read}
+use Rattle.cpu_ops.specs.Machine.{Machine}
+use Rattle.module_ops.specs.declared.op.ManagerOp.{ManagerOp}
+use Rattle.module_ops.specs.Modules.{ModuleTable, manager_reads, manager_refusal, word_read}
+use Rattle.cpu_ops.specs.MayQueue.{section_len}
 use Rattle.core_steps.specs.CoreState.{CoreState, IsCore, cpu_part, cpu_parts, place_parts, state_with, state_after, stepped, word_state, runs_of}
 use Rattle.core_steps.specs.declared.op.Actor.TheVariants as actor
 use Rattle.core_steps.proofs.Parts.{becomes_cpu_list, becomes_load, get_or-cpu_parts, length-cpu_parts}
 use Rattle.core_steps.proofs.Managed.{list_becomes, safe_unread, sweep_told, Manages, ManagesFirst, manages}
-use Rattle.core_steps.proofs.Loaded.{loaded_found}
+use Rattle.cpu_ops.proofs.LoadedEntry.{loaded_found}
 
 -- a row on the list part alone, that reads no word and gives no id
 pub steps_alone : (k : Shape) (reads : ℕ) (m : Machine) (words : List (List ℕ)) (runs : ℕ → List Run) (l n : ListState) → n.last_id ≡ l.last_id → Row k (Modules (list_part reads [] l) ∷ []) (Modules (list_part reads [] n) ∷ [])
@@ -63,7 +64,7 @@ steps_scans k reads m words runs l n cpu same len below row =
 abbrev with_modules : CoreState → ModuleTable → CoreState
 with_modules s ms = record s { modules = ms }
 
-steps_managed : (s : CoreState) → IsCore s → (op : Op) (ops : List Op) (n : ℕ) (after : ModuleTable) → Manages s.shape s.sections s.words s.modules op ops n after
+steps_managed : (s : CoreState) → IsCore s → (op : ManagerOp) (ops : List ManagerOp) (n : ℕ) (after : ModuleTable) → Manages s.shape s.sections s.words s.modules op ops n after
     → (reads : ℕ) → Steps s.shape (state_after reads s) (state_after (reads + n) (with_modules s after))
 steps_managed s core op ops n after (Manages.loads section starts is none) reads =
     let l = s.modules.list in

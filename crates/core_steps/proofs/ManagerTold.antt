@@ -15,10 +15,12 @@ use Rattle.tag_model.proofs.ScanRow.{reading_fits}
 use Rattle.module_area.specs.declared.entry.Entry.{Entry}
 use Rattle.core_list.specs.ListState.{records_of, next_of, found_at, section_in, start_in, sum_read}
 use Rattle.core_list.proofs.Split.{TheEntry, the_entry, entry_holds}
-use Rattle.core_steps.specs.declared.op.Cause.{Cause}
-use Rattle.core_steps.specs.declared.op.Event.TheVariants.{Stepped}
-use Rattle.core_steps.specs.Modules.{section_len, manager_refusal, manager_event, event_of_sweep, kept_by, cause_of, word_read}
-use Rattle.core_steps.specs.CoreState.{CoreState, IsCore, IsModule, EntryFits}
+use Rattle.module_ops.specs.declared.event.Cause.{Cause}
+use Rattle.module_ops.specs.declared.event.Event.TheVariants.{Stepped}
+use Rattle.cpu_ops.specs.MayQueue.{section_len}
+use Rattle.module_ops.specs.Modules.{manager_refusal, manager_event, event_of_sweep, kept_by, cause_of, word_read}
+use Rattle.core_steps.specs.CoreState.{CoreState, IsCore, EntryFits}
+use Rattle.cpu_ops.specs.MayQueue.{IsModule}
 use Rattle.core_steps.specs.Told.{EventFits}
 use Rattle.core_steps.proofs.Managed.{sweep_told}
 use Rattle.core_steps.proofs.ManagerRelease.{sweep_releases}

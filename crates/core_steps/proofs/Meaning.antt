@@ -10,21 +10,23 @@ use Rattle.tag_model.specs.Wrap.{wrap, wrap_minus}
 use Rattle.tag_model.specs.StepRules.{raised, lowered}
 use Rattle.tag_model.specs.Moves.{Move, moved_word}
 use Rattle.tag_model.specs.WordState.{word_place}
-use Rattle.core_steps.specs.declared.op.Op.{Op}
+use Rattle.cpu_ops.specs.declared.op.CpuOp.{CpuOp}
 use Rattle.core_steps.specs.declared.op.Actor.TheVariants as actor
-use Rattle.core_steps.specs.declared.step.WordStep.{WordStep}
-use Rattle.core_steps.specs.declared.step.WordStep.TheVariants.{BeginAllocation, AddBytes, AddCall, SubtractBytes, SubtractCall, Write, GoIn, GoOut, Rest}
-use Rattle.core_steps.specs.Machine.{Machine, hand_at, waiting_at, step_of, words_after, moves_of, moves_in, moves_of_step, after_step, refusal_in, CanTake}
-use Rattle.core_steps.specs.CoreState.{CoreState, IsCore, words_at, words_stepped, modules_after_step, refused, stepped, fresh, fresh_machine, fresh_modules, CanStep}
-use Rattle.core_steps.specs.Modules.{ModuleTable, inside_at, scene_at}
+use Rattle.cpu_ops.specs.declared.step.WordStep.{WordStep}
+use Rattle.cpu_ops.specs.declared.step.WordStep.TheVariants.{BeginAllocation, AddBytes, AddCall, SubtractBytes, SubtractCall, Write, GoIn, GoOut}
+use Rattle.cpu_ops.specs.Machine.{Machine, hand_at, waiting_at, step_of, words_after, moves_of, moves_in, moves_of_step, after_step, refusal_in, CanTake}
+use Rattle.core_steps.specs.CoreState.{CoreState, IsCore, words_stepped, modules_after_step, refused, stepped, fresh}
+use Rattle.module_ops.specs.Modules.{words_at, fresh_modules}
+use Rattle.cpu_ops.specs.Machine.{fresh_machine, CanStep}
+use Rattle.module_ops.specs.Modules.{ModuleTable, inside_at, scene_at}
 use Rattle.tag_section.specs.Section.{Section}
 use Rattle.core_steps.specs.Moved.{kind_at, own_moved, words_moved, core_of, HasMoved, moved_on}
 use Rattle.core_steps.proofs.MovedWords.{moved_one}
-use Rattle.core_steps.proofs.Kept.{can_go, result_none, nothing_past, Answers, LeftOf}
+use Rattle.core_steps.proofs.Kept.{can_go, nothing_past}
 use Rattle.std.proofs.lemmas.Bool.{cases_lt}
-use Rattle.core_steps.specs.declared.op.Event.{Event}
-use Rattle.core_steps.specs.declared.op.Event.TheVariants.{Stepped}
-use Rattle.core_steps.specs.declared.op.StepRefused.{StepRefused}
+use Rattle.module_ops.specs.declared.event.Event.{Event}
+use Rattle.module_ops.specs.declared.event.Event.TheVariants.{Stepped}
+use Rattle.cpu_ops.specs.declared.refused.StepRefused.{StepRefused}
 
 own_at : (cpus tags : ℕ) (moves : List Move) (cpu : ℕ) → cpu < cpus → get_or (words_moved cpus tags moves) cpu [] ≡ own_moved tags moves cpu
 unfolding words_moved
@@ -70,10 +72,9 @@ module _ (cpus tags : ℕ) (moves : List Move) (cpu : ℕ) (below : cpu < cpus) 
   moved_step (Write key held next) hand places can = rw append-nil (sym (set-get_or (words_moved cpus tags moves) cpu []))
   moved_step (GoIn section) hand places can = rw append-nil (sym (set-get_or (words_moved cpus tags moves) cpu []))
   moved_step (GoOut section) hand places can = rw append-nil (sym (set-get_or (words_moved cpus tags moves) cpu []))
-  moved_step Rest hand places can = rw append-nil (sym (set-get_or (words_moved cpus tags moves) cpu []))
 
-moved_in : (cpus tags : ℕ) (moves : List Move) (m : Machine) (ms : ModuleTable) (cpu : ℕ) (ops : List Op) (done : ℕ) → cpu < cpus → length (words_at (words_moved cpus tags moves) cpu) ≡ 2 * tags
-    → CanStep m ms (words_moved cpus tags moves) cpu ops done → refusal_in m (scene_at ms cpu) ops done ≡ None
+moved_in : (cpus tags : ℕ) (moves : List Move) (m : Machine) (ms : ModuleTable) (cpu : ℕ) (ops : List CpuOp) (done : ℕ) → cpu < cpus → length (words_at (words_moved cpus tags moves) cpu) ≡ 2 * tags
+    → CanStep m (scene_at ms cpu) (words_at (words_moved cpus tags moves) cpu) cpu ops done → refusal_in m (scene_at ms cpu) ops done ≡ None
     → words_moved cpus tags (moves ++ moves_in m (inside_at ms cpu) cpu ops done) ≡ words_stepped m (inside_at ms cpu) (words_moved cpus tags moves) cpu ops done
 moved_in cpus tags moves m ms cpu [] done below len can none = cc
 moved_in cpus tags moves m ms cpu (op ∷ ops) done below len can none =
@@ -85,10 +86,9 @@ moved_in cpus tags moves m ms cpu (op ∷ ops) done below len can none =
 pub core_of_step : (shape : Shape) (sections : List Section) (m : Machine) (ms : ModuleTable) (moves : List Move) (cpu : ℕ) → IsCore (core_of shape sections m ms moves) → cpu < shape.cpus → refused (core_of shape sections m ms moves) (actor.Cpu cpu) ≡ None
     → stepped (core_of shape sections m ms moves) (actor.Cpu cpu) ≡ core_of shape sections (after_step m (inside_at ms cpu) cpu) (modules_after_step m ms cpu) (moves ++ moves_of_step m (inside_at ms cpu) cpu)
 core_of_step shape sections m ms moves cpu core below none =
-    let can = can_go (core_of shape sections m ms moves) cpu core in
-    let in_range : cpu < length m.waiting = omega (arith, core.machine.waiting) in
+    let can = can_go (core_of shape sections m ms moves) cpu core below in
     ap (λ (w : List (List ℕ)). record { shape = shape; sections = sections; machine = after_step m (inside_at ms cpu) cpu; words = w; modules = modules_after_step m ms cpu })
-    (sym (moved_in shape.cpus shape.tags moves m ms cpu (waiting_at m cpu).ops (waiting_at m cpu).done below (core.own_words cpu below) (can.step in_range) none))
+    (sym (moved_in shape.cpus shape.tags moves m ms cpu (waiting_at m cpu).ops (waiting_at m cpu).done below (core.own_words cpu below) can.step none))
 
 -- before the first move
 pub core_of_fresh : (shape : Shape) (sections : List Section) → fresh shape sections ≡ core_of shape sections (fresh_machine shape.cpus) (fresh_modules shape (length sections)) []
@@ -117,10 +117,3 @@ moved_after s cpu moves core none has = elim (cases_lt cpu s.shape.cpus) [
 -- what the manager's step leaves
 pub managed_after : (s : CoreState) (moves : List Move) → HasMoved s moves → stepped s actor.Manager ≡ moved_on s actor.Manager moves
 managed_after s moves has = ap (λ (x : CoreState). stepped x actor.Manager) has
-
--- what `go` leaves, by its answer
-pub moved_lists : (s : CoreState) (cpu : ℕ) (m : Machine) (words : List (List ℕ)) (ms : ModuleTable) (r : Result Event StepRefused) (moves : List Move)
-    → IsCore s → Answers (refused s (actor.Cpu cpu)) Stepped r → LeftOf s cpu m words ms r
-    → HasMoved s moves → OnOk r (record s { machine = m; words = words; modules = ms } ≡ moved_on s (actor.Cpu cpu) moves)
-moved_lists s cpu m words ms (Ok e) moves core answer ok has = rw (ok.0, ok.1, ok.2) (moved_after s cpu moves core (result_none _ Stepped e answer) has)
-moved_lists s cpu m words ms (Err e) moves core answer ok has = tt

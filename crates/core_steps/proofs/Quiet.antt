@@ -11,7 +11,7 @@ use Rattle.tag_model.specs.Laws.{has_hand, hand_number, live_of, live_pair}
 use Rattle.tag_model.specs.Reference.{held_counts, live_total}
 use Rattle.tag_model.specs.Wrap.{wrap}
 use Rattle.tag_model.proofs.Live.{live_words}
-use Rattle.core_steps.specs.Machine.{hand_at}
+use Rattle.cpu_ops.specs.Machine.{hand_at}
 use Rattle.core_steps.specs.CoreState.{CoreState, IsCore, cpu_part, cpu_parts, place_parts, runs_of, list_parts, state_with, word_state, total_of}
 use Rattle.core_list.specs.ListState.{ListState, list_part}
 use Rattle.tag_model.specs.declared.state.Run.{Run}

@@ -8,21 +8,22 @@ use Rattle.tag_model.specs.declared.shape.Shape.{Shape}
 use Rattle.tag_model.specs.declared.state.Hand.{Hand}
 use Rattle.tag_model.specs.declared.state.Held.{Held}
 use Rattle.tag_model.specs.declared.state.Held.TheVariants as held
-use Rattle.core_steps.specs.declared.op.Op.{Op}
-use Rattle.core_steps.specs.declared.op.Op.TheVariants.{Open, Close, Split, Swap, Trim, Enter, Leave, Load, Unload, Clean}
-use Rattle.core_steps.specs.declared.op.TheConstants.{KEY_END}
-use Rattle.core_steps.specs.Machine.{Waiting, Scene, reserves, names_key, held_at, tag_in, is_outside, is_used, open_refusal, part_key, is_new_key, clear_step, with_call, step_of, hand_after, places_after, advanced, first_refusal, is_reserved, is_live, is_counted, size_of, in_hand, put_down, bytes_in, with_bytes}
-use Rattle.core_steps.specs.CoreState.{IsReady, IsWaiting, IsOpening, HoldsOpening, runs_in, IsClosing, IsSplitting, IsSwapping, IsTrimming, IsUnderWay, IsOp, IsOpen, IsKey, IsSplit, IsSwap, IsTrim, HoldsParts}
-use Rattle.core_steps.specs.Modules.{section_len}
-use Rattle.core_steps.specs.declared.op.StepRefused.{StepRefused}
+use Rattle.cpu_ops.specs.declared.op.CpuOp.{CpuOp}
+use Rattle.cpu_ops.specs.declared.op.CpuOp.TheVariants.{Open, Close, Split, Swap, Trim, Enter, Leave}
+use Rattle.cpu_ops.specs.declared.op.TheConstants.{KEY_END}
+use Rattle.cpu_ops.specs.Machine.{Waiting, Scene, reserves, names_key, held_at, tag_in, is_outside, is_used, open_refusal, part_key, is_new_key, clear_step, with_call, step_of, hand_after, places_after, advanced, first_refusal, is_reserved, is_live, is_counted, size_of, in_hand, put_down, bytes_in, with_bytes}
+use Rattle.core_steps.specs.CoreState.{IsReady, IsWaiting, IsOpening, HoldsOpening, runs_in, IsClosing, IsSplitting, IsSwapping, IsTrimming, IsUnderWay, HoldsParts}
+use Rattle.cpu_ops.specs.MayQueue.{IsOp, IsOpen, IsKey, IsSplit, IsSwap, IsTrim}
+use Rattle.cpu_ops.specs.MayQueue.{section_len}
+use Rattle.cpu_ops.specs.declared.refused.StepRefused.{StepRefused}
 use Rattle.tag_section.specs.Section.{Section}
 use Rattle.tag_model.specs.StepRules.{may_begin}
 use Rattle.tag_model.specs.declared.state.Run.{Run}
 use Rattle.core_steps.proofs.Takes.{IsRuled, CanWrite, PlacesFit}
 use Rattle.core_steps.proofs.Splits.{names_part, parts_apart, part_below, part_later, new_key_means, split_passes, SplitPasses, unused_key, first_parts, rest_hand, share_written, can_share, rest_holds, rest_none}
 use Rattle.std.proofs.lemmas.Bool.{cases_eq, cases_lt}
-use Rattle.core_steps.specs.declared.step.WordStep.{WordStep}
-use Rattle.core_steps.specs.declared.step.WordStep.TheVariants.{AddCall, Write}
+use Rattle.cpu_ops.specs.declared.step.WordStep.{WordStep}
+use Rattle.cpu_ops.specs.declared.step.WordStep.TheVariants.{AddCall, Write}
 use Rattle.std.proofs.Common.{◌-◌, ◌*◌, ◌%◌}
 use Rattle.core_steps.proofs.Hands.{taken, can_clear, can_exchange, can_put, can_lower, lowered_all, lowered_some, can_end, bytes_taken, passes}
 
@@ -34,7 +35,7 @@ below_three P (suc (suc zero)) h a b c = c
 below_three P (suc (suc (suc n))) h a b c = absurd (omega arith)
 
 -- a key that an op under way names is reserved
-reserved : (key done : ℕ) (op : Op) (ops : List Op) → 0 < done → names_key key op ≡ true → reserves key (record { ops = op ∷ ops; done = done }) ≡ true
+reserved : (key done : ℕ) (op : CpuOp) (ops : List CpuOp) → 0 < done → names_key key op ≡ true → reserves key (record { ops = op ∷ ops; done = done }) ≡ true
 reserved key done op ops some names = grind (arith, nat_tests)
 
 same_key : (key : ℕ) → (key == key) ≡ true
@@ -48,7 +49,7 @@ or_first : (a b : Bool) → a ≡ true → (a || b) ≡ true
 or_first a b h = rw h refl
 
 -- what is ready stays ready where the places that it reserves stay
-pub others_ready : (sections : List Section) (places next : List Held) (hand : Option Hand) (ops : List Op) (done : ℕ) → IsReady sections places hand ops done
+pub others_ready : (sections : List Section) (places next : List Held) (hand : Option Hand) (ops : List CpuOp) (done : ℕ) → IsReady sections places hand ops done
     → ((key : ℕ) → reserves key (record { ops = ops; done = done }) ≡ true → held_at next key ≡ held_at places key) → IsReady sections next hand ops done
 others_ready sections places next hand [] done r keeps = r
 others_ready sections places next hand (Open key section index size ∷ ops) done r keeps = (
@@ -99,15 +100,12 @@ others_ready sections places next hand (Trim key bytes ∷ ops) done r keeps = (
 )
 others_ready sections places next hand (Enter section ∷ ops) done r keeps = r
 others_ready sections places next hand (Leave section ∷ ops) done r keeps = r
-others_ready sections places next hand (Load section ∷ ops) done r keeps = r
-others_ready sections places next hand (Unload section ∷ ops) done r keeps = r
-others_ready sections places next hand (Clean ∷ ops) done r keeps = r
 
 waiting_first : IsWaiting None 0
 waiting_first = record { within = omega arith; start = λ _. refl }
 
 -- before its first step
-pub ready_first : (sections : List Section) (places : List Held) (ops : List Op) → AllByRecursion (IsOp sections) ops → IsReady sections places None ops 0
+pub ready_first : (sections : List Section) (places : List Held) (ops : List CpuOp) → AllByRecursion (IsOp sections) ops → IsReady sections places None ops 0
 ready_first sections places [] all = (refl, refl)
 ready_first sections places (Open key section index size ∷ ops) all =
     (record { within = omega arith; start = λ _. refl; begun = λ e. absurd (omega arith); counted = λ e. absurd (omega arith); place = λ h. absurd (omega arith) }, all.0, all.1)
@@ -121,9 +119,6 @@ ready_first sections places (Trim key bytes ∷ ops) all =
     (record { within = omega arith; start = λ _. refl; in_hand = λ h. absurd (omega arith); more = λ e. absurd (omega arith); place = λ h. absurd (omega arith) }, all.0, all.1)
 ready_first sections places (Enter section ∷ ops) all = (waiting_first, all.0, all.1)
 ready_first sections places (Leave section ∷ ops) all = (waiting_first, all.0, all.1)
-ready_first sections places (Load section ∷ ops) all = (waiting_first, all.0, all.1)
-ready_first sections places (Unload section ∷ ops) all = (waiting_first, all.0, all.1)
-ready_first sections places (Clean ∷ ops) all = (waiting_first, all.0, all.1)
 
 -- ---- the keys of an op whose first step isn't refused are free
 
@@ -147,7 +142,7 @@ unused_first places waiting inside key section none = (test_passes (is_used plac
 pub running_first : (places : List Held) (waiting : List Waiting) (inside : List (Option Run)) (key section : ℕ) → open_refusal places waiting inside key section ≡ None → is_outside section inside ≡ false
 running_first places waiting inside key section none = (test_passes (is_outside section inside) _ _ (test_passes (is_used places waiting key) _ _ none (λ e. cc)).1 (λ e. cc)).0
 
-pub free_key : (places : List Held) (waiting : List Waiting) (scene : Scene) (op : Op) (key : ℕ) → first_refusal places waiting scene op ≡ None → names_key key op ≡ true → is_reserved key waiting ≡ false
+pub free_key : (places : List Held) (waiting : List Waiting) (scene : Scene) (op : CpuOp) (key : ℕ) → first_refusal places waiting scene op ≡ None → names_key key op ≡ true → is_reserved key waiting ≡ false
 free_key places waiting scene (Open named section index size) key none names =
     let same : named ≡ key = grind (arith, nat_tests) in
     subst (λ (k : ℕ). is_reserved k waiting ≡ false) same (unused_key places waiting named (unused_first places waiting scene.inside named section none)).1
@@ -165,9 +160,6 @@ free_key places waiting scene (Swap one two) key none names = elim (or_cases (on
 free_key places waiting scene (Trim named bytes) key none names = live_free places waiting named key (passes _ _ _ none).0 names
 free_key places waiting scene (Enter section) key none names = cc
 free_key places waiting scene (Leave section) key none names = cc
-free_key places waiting scene (Load section) key none names = cc
-free_key places waiting scene (Unload section) key none names = cc
-free_key places waiting scene Clean key none names = cc
 
 free_place : (places : List Held) (waiting : List Waiting) (inside : List (Option Run)) (key section : ℕ) → open_refusal places waiting inside key section ≡ None → held_at places key ≡ held.None
 free_place places waiting inside key section none = (unused_key places waiting key (unused_first places waiting inside key section none)).0
@@ -175,7 +167,7 @@ free_place places waiting inside key section none = (unused_key places waiting k
 -- ---- a step of an op
 
 -- a step on words and places is one of the step rules; what goes in or out of a module has no hand
-abbrev pub Ruled : Op → Option Hand → Type 0 → Type 0
+abbrev pub Ruled : CpuOp → Option Hand → Type 0 → Type 0
 Ruled (Open key section index size) hand T = T
 Ruled (Close key) hand T = T
 Ruled (Split key parts first) hand T = T
@@ -183,11 +175,8 @@ Ruled (Swap one two) hand T = T
 Ruled (Trim key bytes) hand T = T
 Ruled (Enter section) hand T = hand ≡ None
 Ruled (Leave section) hand T = hand ≡ None
-Ruled (Load section) hand T = hand ≡ None
-Ruled (Unload section) hand T = hand ≡ None
-Ruled Clean hand T = hand ≡ None
 
-pub record Next (k : Shape) (sections : List Section) (inside : List (Option Run)) (places : List Held) (hand : Option Hand) (op : Op) (ops : List Op) (done : ℕ) : Type 0 where
+pub record Next (k : Shape) (sections : List Section) (inside : List (Option Run)) (places : List Held) (hand : Option Hand) (op : CpuOp) (ops : List CpuOp) (done : ℕ) : Type 0 where
   pub ruled : Ruled op hand (IsRuled k (runs_in inside) (step_of op done hand places inside) hand places)
   pub ready : let w = advanced (op ∷ ops) done in IsReady sections (places_after (step_of op done hand places inside) places) (hand_after (step_of op done hand places inside) hand) w.ops w.done
   pub kept : (key : ℕ) → names_key key op ≡ false → held_at (places_after (step_of op done hand places inside) places) key ≡ held_at places key
@@ -209,7 +198,7 @@ neither true b h = cc
 neither false b h = (refl, h)
 
 module _ (k : Shape) (sections : List Section) (inside : List (Option Run)) (places : List Held) (fit : PlacesFit places) (len : length places ≡ KEY_END)
-    (hand : Option Hand) (ops : List Op) (queued : AllByRecursion (IsOp sections) ops) where
+    (hand : Option Hand) (ops : List CpuOp) (queued : AllByRecursion (IsOp sections) ops) where
   next_open : (key section index size done : ℕ) → IsOpen sections key section index size → IsOpening places hand key size done → (done ≡ 0 → (held_at places key ≡ held.None) × MayBegin k inside section index)
       → Next k sections inside places hand (Open key section index size) ops done
   next_open key section index size done is under = below_three
@@ -270,7 +259,7 @@ module _ (k : Shape) (sections : List Section) (inside : List (Option Run)) (pla
       under
 
   -- a step that is known, and what the CPU then waits for
-  by_step : (op : Op) (done : ℕ) (step : WordStep) (w : Waiting) → step_of op done hand places inside ≡ step → advanced (op ∷ ops) done ≡ w
+  by_step : (op : CpuOp) (done : ℕ) (step : WordStep) (w : Waiting) → step_of op done hand places inside ≡ step → advanced (op ∷ ops) done ≡ w
       → Ruled op hand (IsRuled k (runs_in inside) step hand places) → IsReady sections (places_after step places) (hand_after step hand) w.ops w.done
       → ((key : ℕ) → names_key key op ≡ false → held_at (places_after step places) key ≡ held_at places key) → Next k sections inside places hand op ops done
   by_step op done step w is then ruled ready kept = record {
@@ -281,7 +270,7 @@ module _ (k : Shape) (sections : List Section) (inside : List (Option Run)) (pla
   }
 
   module _ (key parts first done : ℕ) (is : IsSplit key parts first) (o : IsSplitting places hand key parts first done) where
-    op : Op
+    op : CpuOp
     op = Split key parts first
 
     goes_on : done + 1 < 2 * parts → advanced (Split key parts first ∷ ops) done ≡ record { ops = Split key parts first ∷ ops; done = done + 1 }
@@ -487,7 +476,7 @@ module _ (k : Shape) (sections : List Section) (inside : List (Option Run)) (pla
       (record { ruled = w.start (sym e); ready = rw (w.start (sym e)) (ready_first sections places ops queued); kept = λ key other. refl })
 
   -- the next step of a CPU that is ready and isn't refused
-  pub next : (waiting : List Waiting) (scene : Scene) (op : Op) (done : ℕ) → scene.inside ≡ inside → IsUnderWay places hand op done → IsOp sections op → (done ≡ 0 → first_refusal places waiting scene op ≡ None)
+  pub next : (waiting : List Waiting) (scene : Scene) (op : CpuOp) (done : ℕ) → scene.inside ≡ inside → IsUnderWay places hand op done → IsOp sections op → (done ≡ 0 → first_refusal places waiting scene op ≡ None)
       → ((section index : ℕ) → section < length sections → index < section_len sections section → is_outside section inside ≡ false → MayBegin k inside section index)
       → Next k sections inside places hand op ops done
   next waiting scene (Open key section index size) done same under is free begin = next_open key section index size done is under
@@ -500,6 +489,3 @@ module _ (k : Shape) (sections : List Section) (inside : List (Option Run)) (pla
       (λ e. let first = passes _ _ _ (free e) in (live_counted places waiting key first.0, ltb-true bytes (size_of (held_at places key)) (passes _ _ _ first.1).0))
   next waiting scene (Enter section) done same under is free begin = next_enter section done under
   next waiting scene (Leave section) done same under is free begin = next_leave section done under
-  next waiting scene (Load section) done same under is free begin = elim is [ ]
-  next waiting scene (Unload section) done same under is free begin = elim is [ ]
-  next waiting scene Clean done same under is free begin = elim is [ ]

@@ -29,9 +29,10 @@ use Rattle.module_area.specs.Entries.{entry_of, is_loaded_at, is_loaded_as as is
 use Rattle.module_area.proofs.EntryLemmas.{find_some}
 use Rattle.core_list.specs.ListState.{ListState, is_dead, list_part, loaded_entry, record_of, records_of, run_of}
 use Rattle.core_list.proofs.Split.{the_entry, book_apart, book_entry_at, records_at}
-use Rattle.core_steps.specs.Machine.{Machine, hand_at, run_at}
-use Rattle.core_steps.specs.Modules.{inside_at}
-use Rattle.core_steps.specs.CoreState.{CoreState, IsCore, HasUser, HasUserLeft, cpu_part, cpu_parts, place_parts, list_parts, runs_of, state_with, state_after, word_state, words_at}
+use Rattle.cpu_ops.specs.Machine.{Machine, hand_at, run_at}
+use Rattle.module_ops.specs.Modules.{inside_at}
+use Rattle.core_steps.specs.CoreState.{CoreState, IsCore, cpu_part, cpu_parts, place_parts, list_parts, runs_of, state_with, state_after, word_state}
+use Rattle.module_ops.specs.Modules.{HasUser, HasUserLeft, words_at}
 use Rattle.core_steps.proofs.Parts.{becomes_list, becomes_cpu_list, length-cpu_parts, get_or-cpu_parts, cpu_parts-runs, sum_both, sum_two}
 use Rattle.core_steps.proofs.InsideFacts.{taken_out, stands_at}
 

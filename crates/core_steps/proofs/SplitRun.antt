@@ -15,15 +15,15 @@ use Rattle.tag_model.specs.Moves.{Move}
 use Rattle.tag_model.specs.Laws.{live_of}
 use Rattle.tag_model.specs.Reference.{amount, hand_counts, held_counts, live_total}
 use Rattle.tag_model.proofs.PlaceRow.{counts_stay}
-use Rattle.core_steps.specs.declared.op.Op.{Op}
-use Rattle.core_steps.specs.declared.op.Op.TheVariants.{Open, Close, Split, Swap, Trim, Enter, Leave, Load, Unload, Clean}
+use Rattle.cpu_ops.specs.declared.op.CpuOp.{CpuOp}
+use Rattle.cpu_ops.specs.declared.op.CpuOp.TheVariants.{Open, Close, Split, Swap, Trim, Enter, Leave}
 use Rattle.tag_section.specs.Section.{Section}
 use Rattle.tag_model.specs.declared.state.Run.{Run}
-use Rattle.core_steps.specs.Modules.{inside_at, scene_at}
+use Rattle.module_ops.specs.Modules.{inside_at, scene_at}
 use Rattle.core_steps.specs.declared.op.Actor.TheVariants as actor
-use Rattle.core_steps.specs.declared.step.WordStep.{WordStep}
-use Rattle.core_steps.specs.declared.step.WordStep.TheVariants.{AddCall, Write}
-use Rattle.core_steps.specs.Machine.{Waiting, Machine, waiting_at, hand_at, held_at, in_hand, is_counted, part_key, clear_step, step_of, hand_after, places_after, with_call, moves_in, moves_of, moves_of_step}
+use Rattle.cpu_ops.specs.declared.step.WordStep.{WordStep}
+use Rattle.cpu_ops.specs.declared.step.WordStep.TheVariants.{AddCall, Write}
+use Rattle.cpu_ops.specs.Machine.{Waiting, Machine, waiting_at, hand_at, held_at, in_hand, is_counted, part_key, clear_step, step_of, hand_after, places_after, with_call, moves_in, moves_of, moves_of_step}
 use Rattle.core_steps.specs.CoreState.{CoreState, IsCore, IsReady, runs_in, settled_hand, stepped, word_state}
 use Rattle.core_steps.specs.Laws.{Begins, waits_for, after_steps, moves_of_run, call_move}
 use Rattle.core_steps.proofs.Takes.{IsRuled}
@@ -42,7 +42,7 @@ abbrev call_counts : Kind → ℕ → Tag → ℕ
 call_counts kind t tag = cond (tag.number == t) (amount kind 0 1) 0
 
 -- a CPU that isn't in an op has no hand
-free_hand : (n : List Section) (places : List Held) (hand : Option Hand) (ops : List Op) → IsReady n places hand ops 0 → hand ≡ None
+free_hand : (n : List Section) (places : List Held) (hand : Option Hand) (ops : List CpuOp) → IsReady n places hand ops 0 → hand ≡ None
 free_hand n places hand [] r = r.0
 free_hand n places hand (Open key section index size ∷ ops) r = r.0.start refl
 free_hand n places hand (Close key ∷ ops) r = r.0.start refl
@@ -51,9 +51,6 @@ free_hand n places hand (Swap one two ∷ ops) r = r.0.start refl
 free_hand n places hand (Trim key bytes ∷ ops) r = r.0.start refl
 free_hand n places hand (Enter section ∷ ops) r = r.0.start refl
 free_hand n places hand (Leave section ∷ ops) r = r.0.start refl
-free_hand n places hand (Load section ∷ ops) r = r.0.start refl
-free_hand n places hand (Unload section ∷ ops) r = r.0.start refl
-free_hand n places hand (Clean ∷ ops) r = r.0.start refl
 
 -- a write keeps the balance
 write_keeps : (k : Shape) (runs : List Run) (kind : Kind) (t key : ℕ) (hand next : Option Hand) (places : List Held) (will : Held) → IsRuled k runs (Write key will next) hand places
@@ -83,12 +80,12 @@ rest_tagged tag size left h is = go (left == 1) is
     go true e = cc
     go false e = cc
 
-moves_known : (m : Machine) (inside : List (Option Run)) (cpu : ℕ) (op : Op) (ops : List Op) (done : ℕ) (step : WordStep) (hand : Option Hand) → waiting_at m cpu ≡ waits_for op ops done → step_of op done (hand_at m cpu) m.places inside ≡ step → hand_at m cpu ≡ hand
+moves_known : (m : Machine) (inside : List (Option Run)) (cpu : ℕ) (op : CpuOp) (ops : List CpuOp) (done : ℕ) (step : WordStep) (hand : Option Hand) → waiting_at m cpu ≡ waits_for op ops done → step_of op done (hand_at m cpu) m.places inside ≡ step → hand_at m cpu ≡ hand
     → moves_of_step m inside cpu ≡ moves_of cpu step hand
 moves_known m inside cpu op ops done step hand waits is held =
     ap (λ (w : Waiting). moves_in m inside cpu w.ops w.done) waits ∙ ap (λ (x : WordStep). moves_of cpu x (hand_at m cpu)) is ∙ ap (moves_of cpu step) held
 
-module _ (s : CoreState) (cpu key parts first done : ℕ) (ops : List Op) (tag : Tag) (waits : waiting_at s.machine cpu ≡ waits_for (Split key parts first) ops done)
+module _ (s : CoreState) (cpu key parts first done : ℕ) (ops : List CpuOp) (tag : Tag) (waits : waiting_at s.machine cpu ≡ waits_for (Split key parts first) ops done)
     (t : Stepped s cpu (Split key parts first) ops done) where
   -- the step is known
   known_hand : (step : WordStep) → step_of (Split key parts first) done (hand_at s.machine cpu) s.machine.places (inside_at s.modules cpu) ≡ step → hand_at (stepped s (actor.Cpu cpu)).machine cpu ≡ hand_after step (hand_at s.machine cpu)
@@ -147,10 +144,10 @@ module _ (s : CoreState) (cpu key parts first done : ℕ) (ops : List Op) (tag :
   later : 0 < done → IsTagged tag (hand_at s.machine cpu) → SplitStep s cpu parts done tag
   later some tagged = elim (cases_lt done parts) [ inl more ↦ adds some more tagged | inr past ↦ writes past tagged ]
 
-pub first_moves : (s : CoreState) (cpu key parts first : ℕ) (ops : List Op) → waiting_at s.machine cpu ≡ waits_for (Split key parts first) ops 0 → moves_of_step s.machine (inside_at s.modules cpu) cpu ≡ []
+pub first_moves : (s : CoreState) (cpu key parts first : ℕ) (ops : List CpuOp) → waiting_at s.machine cpu ≡ waits_for (Split key parts first) ops 0 → moves_of_step s.machine (inside_at s.modules cpu) cpu ≡ []
 first_moves s cpu key parts first ops waits = moves_known s.machine (inside_at s.modules cpu) cpu (Split key parts first) ops 0 (clear_step key s.machine.places) (hand_at s.machine cpu) waits refl refl
 
-pub later_moves : (s : CoreState) (cpu key parts first done : ℕ) (hand : Hand) (ops : List Op) → IsCore s → waiting_at s.machine cpu ≡ waits_for (Split key parts first) ops done → hand_at s.machine cpu ≡ Some hand
+pub later_moves : (s : CoreState) (cpu key parts first done : ℕ) (hand : Hand) (ops : List CpuOp) → IsCore s → waiting_at s.machine cpu ≡ waits_for (Split key parts first) ops done → hand_at s.machine cpu ≡ Some hand
     → moves_of_step s.machine (inside_at s.modules cpu) cpu ≡ cond (nat_lt done parts) (call_move cpu hand.tag ∷ []) []
 later_moves s cpu key parts first done hand ops core waits held =
     let below = waits_below s.machine cpu (Split key parts first) ops done waits in
@@ -161,7 +158,7 @@ later_moves s cpu key parts first done hand ops core waits held =
 
 -- ---- the rest of a split
 
-record SplitRest (s : CoreState) (cpu parts done left : ℕ) (ops : List Op) (tag : Tag) : Type 0 where
+record SplitRest (s : CoreState) (cpu parts done left : ℕ) (ops : List CpuOp) (tag : Tag) : Type 0 where
   moves : moves_of_run s (replicate left (actor.Cpu cpu)) ≡ replicate (parts - done) (call_move cpu tag)
   counts : (kind : Kind) (t : ℕ) → balance kind t cpu (after_steps s cpu left) ≡ balance kind t cpu s + (parts - done) * call_counts kind t tag
   core : IsCore (after_steps s cpu left)
@@ -182,7 +179,7 @@ counts_more parts done was now end each first then = elim (cases_lt done parts) 
       let f : now ≡ was + 0 * each = rw l at first in rw e (omega arith)
 ]
 
-split_rest : (left : ℕ) (s : CoreState) (cpu key parts first done : ℕ) (ops : List Op) (tag : Tag) → IsCore s → waiting_at s.machine cpu ≡ waits_for (Split key parts first) ops done → 0 < done → 2 ≤ parts
+split_rest : (left : ℕ) (s : CoreState) (cpu key parts first done : ℕ) (ops : List CpuOp) (tag : Tag) → IsCore s → waiting_at s.machine cpu ≡ waits_for (Split key parts first) ops done → 0 < done → 2 ≤ parts
     → done + suc left ≡ 2 * parts → IsTagged tag (hand_at s.machine cpu) → SplitRest s cpu parts done (suc left) ops tag
 split_rest zero s cpu key parts first done ops tag core waits some two all tagged =
     let t = takes_step s cpu (Split key parts first) ops done core waits (later_free s.machine (scene_at s.modules cpu) (Split key parts first) ops done (omega arith)) in
@@ -219,7 +216,7 @@ no_hand_balance : (s : CoreState) (cpu : ℕ) (kind : Kind) (t : ℕ) → hand_a
 unfolding balance
 no_hand_balance s cpu kind t free = let e = ap (hand_counts kind t) free in omega (arith, live_places s kind t)
 
-whole : (s : CoreState) (cpu key parts first size : ℕ) (tag : Tag) (ops : List Op) → IsCore s → Begins s cpu (Split key parts first) ops → held_at s.machine.places key ≡ held.Counted tag size → Whole s cpu parts tag
+whole : (s : CoreState) (cpu key parts first size : ℕ) (tag : Tag) (ops : List CpuOp) → IsCore s → Begins s cpu (Split key parts first) ops → held_at s.machine.places key ≡ held.Counted tag size → Whole s cpu parts tag
 whole s cpu key parts first size tag ops core b is =
     let t = takes_step s cpu (Split key parts first) ops 0 core b.waits (in_free s.machine (scene_at s.modules cpu) cpu (Split key parts first) ops 0 b.waits b.free) in
     let two = t.ready.1.two_parts in
@@ -259,11 +256,11 @@ counted_is held.None h = cc
 counted_is held.Empty h = cc
 counted_is (held.Counted tag size) h = (tag, size, refl)
 
-pub split_moves : (s : CoreState) (cpu key parts first size : ℕ) (tag : Tag) (ops : List Op) → IsCore s → Begins s cpu (Split key parts first) ops → held_at s.machine.places key ≡ held.Counted tag size
+pub split_moves : (s : CoreState) (cpu key parts first size : ℕ) (tag : Tag) (ops : List CpuOp) → IsCore s → Begins s cpu (Split key parts first) ops → held_at s.machine.places key ≡ held.Counted tag size
     → moves_of_run s (replicate (2 * parts) (actor.Cpu cpu)) ≡ replicate (parts - 1) (call_move cpu tag)
 split_moves s cpu key parts first size tag ops core b is = (whole s cpu key parts first size tag ops core b is).moves
 
-pub split_bytes : (s : CoreState) (cpu key parts first t : ℕ) (ops : List Op) → IsCore s → Begins s cpu (Split key parts first) ops
+pub split_bytes : (s : CoreState) (cpu key parts first t : ℕ) (ops : List CpuOp) → IsCore s → Begins s cpu (Split key parts first) ops
     → live_total Bytes t (live_of (word_state (after_steps s cpu (2 * parts)))) ≡ live_total Bytes t (live_of (word_state s))
 split_bytes s cpu key parts first t ops core b =
     let live = (split_passes s.machine.places s.machine.waiting key parts first (in_free s.machine (scene_at s.modules cpu) cpu (Split key parts first) ops 0 b.waits b.free)).live in
@@ -271,7 +268,7 @@ split_bytes s cpu key parts first t ops core b =
     let w = (whole s cpu key parts first x.1 x.0 ops core b x.2).counts Bytes t in
     omega (arith, no_bytes (x.0.number == t) (parts - 1))
 
-pub split_calls : (s : CoreState) (cpu key parts first size t : ℕ) (tag : Tag) (ops : List Op) → IsCore s → Begins s cpu (Split key parts first) ops → held_at s.machine.places key ≡ held.Counted tag size
+pub split_calls : (s : CoreState) (cpu key parts first size t : ℕ) (tag : Tag) (ops : List CpuOp) → IsCore s → Begins s cpu (Split key parts first) ops → held_at s.machine.places key ≡ held.Counted tag size
     → live_total Calls t (live_of (word_state (after_steps s cpu (2 * parts)))) ≡ live_total Calls t (live_of (word_state s)) + cond (tag.number == t) (parts - 1) 0
 split_calls s cpu key parts first size t tag ops core b is =
     let w = (whole s cpu key parts first size tag ops core b is).counts Calls t in

@@ -9,13 +9,15 @@ use Rattle.module_area.specs.declared.entry.Entry.{Entry}
 use Rattle.core_list.specs.ListState.{ListState, dead_list, loaded_entry, next_of, records_of, steps_at, sweep_steps, swept_list, tags_of}
 use Rattle.core_list.proofs.Ends.{begins_of_all, begins_of_one, release_falls, scan_falls}
 use Rattle.core_steps.specs.declared.op.Actor.TheVariants as actor
-use Rattle.core_steps.specs.declared.op.Op.{Op}
-use Rattle.core_steps.specs.declared.op.Op.TheVariants.{Open, Close, Split, Swap, Trim, Enter, Leave, Load, Unload, Clean}
-use Rattle.core_steps.specs.Machine.{first_refusal, hand_at, refusal_in, waiting_at}
-use Rattle.core_steps.specs.Modules.{Managing, ModuleTable, is_nothing, managed_by, managed_on, manager_refusal, manager_refusal_in, scene_at, unloads}
+use Rattle.cpu_ops.specs.declared.op.CpuOp.{CpuOp}
+use Rattle.cpu_ops.specs.declared.op.CpuOp.TheVariants.{Open, Close, Split, Swap, Trim, Enter, Leave}
+use Rattle.module_ops.specs.declared.op.ManagerOp.{ManagerOp}
+use Rattle.module_ops.specs.declared.op.ManagerOp.TheVariants.{Unload, Clean}
+use Rattle.cpu_ops.specs.Machine.{first_refusal, hand_at, refusal_in, waiting_at}
+use Rattle.module_ops.specs.Modules.{Managing, ModuleTable, is_nothing, managed_by, managed_on, manager_refusal, manager_refusal_in, scene_at, unloads}
 use Rattle.core_steps.specs.CoreState.{CoreState, IsCore, IsReady, modules_stepped, refused, stepped}
 use Rattle.core_steps.proofs.Kept.{first_passes, nothing_past, stay_now}
-use Rattle.core_steps.proofs.Loaded.{loaded_found}
+use Rattle.cpu_ops.proofs.LoadedEntry.{loaded_found}
 use Rattle.core_steps.proofs.Managed.{Manages, sweep_told}
 use Rattle.core_steps.proofs.ManagerCore.{manager_core}
 use Rattle.core_steps.proofs.ManagerLeft.{some_left}
@@ -27,21 +29,21 @@ managed_as s m is = ap (λ (x : Managing). managed_by s.shape s.sections s.words
 
 -- ---- the first step
 
-pub unload_bounded : (s : CoreState) (section : ℕ) (e : Entry) (ops : List Op) → IsCore s → s.modules.manager ≡ record { ops = Unload section ∷ ops; under_way = false } → loaded_entry section s.modules.list ≡ Some e
+pub unload_bounded : (s : CoreState) (section : ℕ) (e : Entry) (ops : List ManagerOp) → IsCore s → s.modules.manager ≡ record { ops = Unload section ∷ ops; under_way = false } → loaded_entry section s.modules.list ≡ Some e
     → sweep_steps s.shape (stepped s actor.Manager).modules.list ≤ 2 * s.shape.cpus * e.length + 1
 unload_bounded s section e ops core is found =
     let after : (stepped s actor.Manager).modules.list ≡ dead_list e.id s.modules.list =
     ap (λ (ms : ModuleTable). ms.list) (managed_as s (record { ops = Unload section ∷ ops; under_way = false }) is) ∙ ap (λ (o : Option Entry). (unloads s.modules (Unload section) ops o).list) found in
     subst (λ (l : ListState). sweep_steps s.shape l ≤ 2 * s.shape.cpus * e.length + 1) (sym after) (begins_of_one s.shape s.modules.list e.id e core.modules.list (loaded_found section s.modules.list e core.modules.list found).0)
 
-pub clean_bounded : (s : CoreState) (ops : List Op) → IsCore s → s.modules.manager ≡ record { ops = Clean ∷ ops; under_way = false }
+pub clean_bounded : (s : CoreState) (ops : List ManagerOp) → IsCore s → s.modules.manager ≡ record { ops = Clean ∷ ops; under_way = false }
     → sweep_steps s.shape (stepped s actor.Manager).modules.list ≤ 2 * s.shape.cpus * tags_of (dead_ids (records_of s.modules.list)) s.modules.list.area.entries + length (dead_ids (records_of s.modules.list))
 clean_bounded s ops core is =
     let l = s.modules.list in
     let after : (stepped s actor.Manager).modules.list ≡ swept_list l = ap (λ (ms : ModuleTable). ms.list) (managed_as s (record { ops = Clean ∷ ops; under_way = false }) is) in
     subst (λ (x : ListState). sweep_steps s.shape x ≤ 2 * s.shape.cpus * tags_of (dead_ids (records_of l)) l.area.entries + length (dead_ids (records_of l))) (sym after) (begins_of_all s.shape l core.modules.list)
 
-pub clean_of_nothing : (s : CoreState) (ops : List Op) → s.modules.manager ≡ record { ops = Clean ∷ ops; under_way = false } → dead_ids (records_of s.modules.list) ≡ [] → (stepped s actor.Manager).modules.manager ≡ record { ops = ops; under_way = false }
+pub clean_of_nothing : (s : CoreState) (ops : List ManagerOp) → s.modules.manager ≡ record { ops = Clean ∷ ops; under_way = false } → dead_ids (records_of s.modules.list) ≡ [] → (stepped s actor.Manager).modules.manager ≡ record { ops = ops; under_way = false }
 clean_of_nothing s ops is none =
     let l = s.modules.list in
     ap (λ (ms : ModuleTable). ms.manager) (managed_as s (record { ops = Clean ∷ ops; under_way = false }) is)
@@ -53,11 +55,11 @@ clean_of_nothing s ops is none =
 unrefused : (s : CoreState) → IsCore s → s.modules.manager.under_way ≡ true → manager_refusal s.sections s.modules ≡ None
 unrefused s core way = go s.modules.manager.ops refl
   where
-    go : (ops : List Op) → s.modules.manager.ops ≡ ops → manager_refusal_in s.sections s.modules.list ops s.modules.manager.under_way ≡ None
+    go : (ops : List ManagerOp) → s.modules.manager.ops ≡ ops → manager_refusal_in s.sections s.modules.list ops s.modules.manager.under_way ≡ None
     go [] is = absurd (core.modules.some_op way is)
     go (op ∷ ops) is = rw way refl
 
-fewer_after : (s : CoreState) → IsCore s → (op : Op) (ops : List Op) (n : ℕ) (after : ModuleTable) → s.modules.manager.under_way ≡ true → Manages s.shape s.sections s.words s.modules op ops n after
+fewer_after : (s : CoreState) → IsCore s → (op : ManagerOp) (ops : List ManagerOp) (n : ℕ) (after : ModuleTable) → s.modules.manager.under_way ≡ true → Manages s.shape s.sections s.words s.modules op ops n after
     → sweep_steps s.shape after.list < sweep_steps s.shape s.modules.list
 fewer_after s core op ops n after way (Manages.loads section starts is none) = absurd (cc)
 fewer_after s core op ops n after way (Manages.marks_dead section e starts is unused) = absurd (cc)
@@ -76,7 +78,7 @@ ends_at s core none = go (is_nothing (next_of s.modules.list.sweep)) refl
     go true is = refl
     go false is = absurd (omega (arith, some_left s core s.modules.list.sweep refl is))
 
-sweep_ends : (s : CoreState) (op : Op) (ops : List Op) → IsCore s → s.modules.manager ≡ record { ops = op ∷ ops; under_way = true } → sweep_steps s.shape (stepped s actor.Manager).modules.list ≡ 0
+sweep_ends : (s : CoreState) (op : ManagerOp) (ops : List ManagerOp) → IsCore s → s.modules.manager ≡ record { ops = op ∷ ops; under_way = true } → sweep_steps s.shape (stepped s actor.Manager).modules.list ≡ 0
     → (stepped s actor.Manager).modules.manager ≡ record { ops = ops; under_way = false }
 sweep_ends s op ops core is none =
     let way : s.modules.manager.under_way ≡ true = ap (λ (m : Managing). m.under_way) is in
@@ -96,7 +98,7 @@ nothing_left s over = go s.modules.list.sweep over
     go (sweep.Done []) over = refl
     go (sweep.Done (id ∷ left)) over = absurd (cc)
 
-ended_has_nothing : (s : CoreState) (op : Op) (ops : List Op) → s.modules.manager ≡ record { ops = op ∷ ops; under_way = true } → (stepped s actor.Manager).modules.manager ≡ record { ops = ops; under_way = false }
+ended_has_nothing : (s : CoreState) (op : ManagerOp) (ops : List ManagerOp) → s.modules.manager ≡ record { ops = op ∷ ops; under_way = true } → (stepped s actor.Manager).modules.manager ≡ record { ops = ops; under_way = false }
     → sweep_steps s.shape (stepped s actor.Manager).modules.list ≡ 0
 ended_has_nothing s op ops is ended =
     let made = managed_as s (record { ops = op ∷ ops; under_way = true }) is in
@@ -108,7 +110,7 @@ ended_has_nothing s op ops is ended =
     go true on = refl
     go false on = absurd (cc)
 
-pub ends_exactly : (s : CoreState) (op : Op) (ops : List Op) → IsCore s → s.modules.manager ≡ record { ops = op ∷ ops; under_way = true }
+pub ends_exactly : (s : CoreState) (op : ManagerOp) (ops : List ManagerOp) → IsCore s → s.modules.manager ≡ record { ops = op ∷ ops; under_way = true }
     → (sweep_steps s.shape (stepped s actor.Manager).modules.list ≡ 0) ↔ ((stepped s actor.Manager).modules.manager ≡ record { ops = ops; under_way = false })
 ends_exactly s op ops core is = (sweep_ends s op ops core is, ended_has_nothing s op ops is)
 
@@ -116,7 +118,7 @@ ends_exactly s op ops core is = (sweep_ends s op ops core is, ended_has_nothing 
 
 module _ (s : CoreState) (cpu : ℕ) (core : IsCore s) (below : cpu < s.shape.cpus) (way : s.modules.manager.under_way ≡ true) where
   -- an op that goes in or out is refused at its one step
-  held_op : (op : Op) (ops : List Op) (done : ℕ) → IsReady s.sections s.machine.places (hand_at s.machine cpu) (op ∷ ops) done
+  held_op : (op : CpuOp) (ops : List CpuOp) (done : ℕ) → IsReady s.sections s.machine.places (hand_at s.machine cpu) (op ∷ ops) done
       → (done ≡ 0 → first_refusal s.machine.places s.machine.waiting (scene_at s.modules cpu) op ≡ None) → modules_stepped s.machine s.modules cpu (op ∷ ops) done ≡ s.modules
   held_op (Enter section) ops done ready free = let first : done ≡ 0 = omega (arith, ready.0.within) in let none = free first in absurd (cc)
   held_op (Leave section) ops done ready free = let first : done ≡ 0 = omega (arith, ready.0.within) in let none = free first in absurd (cc)
@@ -125,11 +127,8 @@ module _ (s : CoreState) (cpu : ℕ) (core : IsCore s) (below : cpu < s.shape.cp
   held_op (Split key parts first) ops done ready free = stay_now s cpu core below (Split key parts first) done refl
   held_op (Swap one two) ops done ready free = stay_now s cpu core below (Swap one two) done refl
   held_op (Trim key bytes) ops done ready free = stay_now s cpu core below (Trim key bytes) done refl
-  held_op (Load section) ops done ready free = refl
-  held_op (Unload section) ops done ready free = refl
-  held_op Clean ops done ready free = refl
 
-  held_ops : (ops : List Op) (done : ℕ) → IsReady s.sections s.machine.places (hand_at s.machine cpu) ops done → refusal_in s.machine (scene_at s.modules cpu) ops done ≡ None → modules_stepped s.machine s.modules cpu ops done ≡ s.modules
+  held_ops : (ops : List CpuOp) (done : ℕ) → IsReady s.sections s.machine.places (hand_at s.machine cpu) ops done → refusal_in s.machine (scene_at s.modules cpu) ops done ≡ None → modules_stepped s.machine s.modules cpu ops done ≡ s.modules
   held_ops [] done ready none = refl
   held_ops (op ∷ ops) done ready none = held_op op ops done ready (first_passes s.machine (scene_at s.modules cpu) op ops done none)
 

@@ -23,10 +23,11 @@ use Rattle.tag_model.proofs.CpuFits.{HandFits, hand_fits_means}
 use Rattle.tag_model.proofs.PlaceRow.{safe-writes_place}
 use Rattle.tag_model.proofs.Swept.{part_passes}
 use Rattle.tag_model.proofs.Told.{hand_in_tags}
-use Rattle.core_steps.specs.declared.step.WordStep.{WordStep}
-use Rattle.core_steps.specs.declared.step.WordStep.TheVariants.{BeginAllocation, AddBytes, AddCall, SubtractBytes, SubtractCall, Write, GoIn, GoOut, Rest}
-use Rattle.core_steps.specs.Machine.{Machine, hand_at, held_at, hand_after, places_after, words_after, raised_in_hand, lowered_in_hand, with_bytes, with_call, less_bytes, CanTake, HandInWords, HasRoom, HasBytes, HasCall}
-use Rattle.core_steps.specs.CoreState.{words_at, cpu_part, cpu_parts, place_parts}
+use Rattle.cpu_ops.specs.declared.step.WordStep.{WordStep}
+use Rattle.cpu_ops.specs.declared.step.WordStep.TheVariants.{BeginAllocation, AddBytes, AddCall, SubtractBytes, SubtractCall, Write, GoIn, GoOut}
+use Rattle.cpu_ops.specs.Machine.{Machine, hand_at, held_at, hand_after, places_after, words_after, raised_in_hand, lowered_in_hand, with_bytes, with_call, less_bytes, CanTake, HandInWords, HasRoom, HasBytes, HasCall}
+use Rattle.module_ops.specs.Modules.{words_at}
+use Rattle.core_steps.specs.CoreState.{cpu_part, cpu_parts, place_parts}
 use Rattle.core_steps.proofs.Parts.{becomes_first, length-cpu_parts, get_or-cpu_parts, get_or-place_parts, length-place_parts, sum_both, sum_without}
 use Rattle.core_steps.proofs.Leads.{Leads, leads_cpu, leads_place}
 
@@ -79,7 +80,6 @@ IsRuled k runs SubtractCall hand places = InHand hand CanSubtractCall
 IsRuled k runs (Write key will next) hand places = (key < length places) × CanWrite hand next (held_at places key) will
 IsRuled k runs (GoIn section) hand places = ⊥
 IsRuled k runs (GoOut section) hand places = ⊥
-IsRuled k runs Rest hand places = ⊥
 
 abbrev pub tail_of : List Held → List Part → List Part
 tail_of places lists = place_parts 0 places ++ lists
@@ -116,7 +116,6 @@ module _ (k : Shape) (checked : IsChecked k) (m : Machine) (words : List (List �
       record { row = writes_place row; safe = λ old new becomes. safe-writes_place k (0 + key) _ _ (held_at m.places key) will old new checked row becomes })
   leads_step (GoIn section) r = elim r [ ]
   leads_step (GoOut section) r = elim r [ ]
-  leads_step Rest r = elim r [ ]
 
 -- ---- what the laws tell of the hands and the places
 
@@ -182,7 +181,6 @@ module _ (k : Shape) (words places : ℕ) (own : words ≡ 2 * k.tags) (runs : L
   can_take (Write key will next) hand all len s r = let b = r.0 in omega arith
   can_take (GoIn section) hand all len s r = tt
   can_take (GoOut section) hand all len s r = tt
-  can_take Rest hand all len s r = tt
 
 -- ---- what a step keeps
 
@@ -195,7 +193,6 @@ length-places_after SubtractCall places = refl
 length-places_after (Write key will next) places = length-set places key will
 length-places_after (GoIn section) places = refl
 length-places_after (GoOut section) places = refl
-length-places_after Rest places = refl
 
 length-raised : (hand : Option Hand) (kind : Kind) (n : ℕ) (words : List ℕ) → length (raised_in_hand hand kind n words) ≡ length words
 length-raised None kind n words = refl
@@ -214,4 +211,3 @@ length-words_after SubtractCall hand words = length-lowered hand Calls 1 words
 length-words_after (Write key will next) hand words = refl
 length-words_after (GoIn section) hand words = refl
 length-words_after (GoOut section) hand words = refl
-length-words_after Rest hand words = refl

@@ -1,6 +1,6 @@
 -- The machine with its words, the word state that it stands for, and what holds of it.
 use Rattle.std.specs.List.{AllByRecursion}
-use Rattle.std.specs.Prelude.{◌≡◌, ℕ, All, IsSomeAnd, ◌^◌, ◌+◌, ◌-◌, ◌*◌, ◌<◌, ◌≤◌, ◌≢◌, true, false, IsTrue, Option, Some, None, List, [], ◌∷◌, ◌++◌, length, slice_index_or, slice_set, replicate, sum_by, slice_index, fold}
+use Rattle.std.specs.Prelude.{◌≡◌, ℕ, All, map, IsSomeAnd, ◌+◌, ◌-◌, ◌*◌, ◌<◌, ◌≤◌, ◌≢◌, true, false, IsTrue, Option, Some, None, List, [], ◌∷◌, ◌++◌, length, slice_index_or, slice_set, replicate, sum_by, slice_index, fold}
 use Rattle.tag_model.specs.declared.shape.Shape.{Shape}
 use Rattle.tag_model.specs.declared.state.Tag.{Tag}
 use Rattle.tag_model.specs.declared.state.Hand.{Hand}
@@ -15,24 +15,24 @@ use Rattle.tag_model.specs.declared.limits.TheConstants.{SIZE_END}
 use Rattle.tag_model.specs.Shape.{IsChecked}
 use Rattle.tag_model.specs.Wrap.{wrap}
 use Rattle.tag_model.specs.WordState.{word_place}
-use Rattle.tag_model.specs.Laws.{Safe, sweep_fits}
+use Rattle.tag_model.specs.Laws.{Safe}
 use Rattle.core_steps.specs.declared.op.Op.{Op}
+use Rattle.cpu_ops.specs.declared.op.CpuOp.{CpuOp}
+use Rattle.cpu_ops.specs.declared.op.CpuOp.TheVariants as by_cpu
+use Rattle.module_ops.specs.declared.op.ManagerOp.{ManagerOp}
+use Rattle.module_ops.specs.declared.op.ManagerOp.TheVariants as by_manager
 use Rattle.core_steps.specs.declared.op.Op.TheVariants.{Open, Close, Split, Swap, Trim, Enter, Leave, Load, Unload, Clean}
-use Rattle.core_steps.specs.declared.op.Event.{Event}
-use Rattle.core_steps.specs.declared.op.Event.TheVariants.{Stepped}
-use Rattle.core_steps.specs.declared.step.WordStep.{WordStep}
-use Rattle.core_steps.specs.declared.step.WordStep.TheVariants.{BeginAllocation, AddBytes, AddCall, SubtractBytes, SubtractCall, Write, GoIn, GoOut, Rest}
+use Rattle.module_ops.specs.declared.event.Event.{Event}
+use Rattle.module_ops.specs.declared.event.Event.TheVariants.{Stepped}
 use Rattle.core_steps.specs.declared.op.Actor.{Actor}
 use Rattle.core_steps.specs.declared.op.Actor.TheVariants as actor
-use Rattle.core_steps.specs.declared.op.StepRefused.{StepRefused}
-use Rattle.core_steps.specs.declared.op.TheConstants.{KEY_END, MAX_PARTS}
-use Rattle.core_steps.specs.Machine.{Waiting, Machine, nothing_waits, hand_at, held_at, waiting_at, run_at, tag_in, reserves, refusal_in, is_counted, bytes_in, refusal_of, after_step, words_after, step_of, step_count, KeysFit, HasCall, CanTake, part_key, is_new_key}
-use Rattle.core_steps.specs.Modules.{Managing, ModuleTable, nothing_managed, inside_at, scene_at, manager_reads, section_len, modules_after, manager_refusal, managed, manager_event, is_nothing, word_in}
-use Rattle.core_list.specs.ListState.{ListState, IsList, records_of, list_part, fresh_list, next_of, loaded_entry}
+use Rattle.cpu_ops.specs.declared.refused.StepRefused.{StepRefused}
+use Rattle.cpu_ops.specs.declared.op.TheConstants.{KEY_END}
+use Rattle.cpu_ops.specs.Machine.{Waiting, Machine, nothing_waits, fresh_machine, hand_at, held_at, waiting_at, run_at, reserves, is_counted, bytes_in, refusal_of, after_step, words_after, step_of, part_key, queued_on}
+use Rattle.cpu_ops.specs.MayQueue.{IsOp, IsModule, section_len}
+use Rattle.module_ops.specs.Modules.{ModuleTable, inside_at, scene_at, manager_reads, modules_after, manager_refusal, managed, manager_event, is_nothing, word_in, words_at, with_managed, fresh_modules, IsManagerOp}
+use Rattle.core_list.specs.ListState.{ListState, IsList, list_part, next_of}
 use Rattle.module_area.specs.declared.entry.Entry.{Entry}
-use Rattle.module_area.specs.declared.entry.State.TheVariants.{Loaded}
-use Rattle.module_area.specs.declared.book.TheConstants.{USER_LIMIT}
-use Rattle.module_area.specs.Entries.{entry_of}
 use Rattle.tag_section.specs.Section.{Section}
 
 pub record CoreState : Type 0 where
@@ -41,10 +41,6 @@ pub record CoreState : Type 0 where
   pub machine : Machine
   pub words : List (List ℕ)
   pub modules : ModuleTable
-
--- a CPU's words
-abbrev pub words_at : List (List ℕ) → ℕ → List ℕ
-words_at words cpu = slice_index_or words cpu []
 
 -- ---- the word state
 
@@ -96,14 +92,14 @@ abbrev pub refused : CoreState → Actor → Option StepRefused
 refused s (actor.Cpu cpu) = refusal_of s.machine (scene_at s.modules cpu) cpu
 refused s actor.Manager = manager_refusal s.sections s.modules
 
-abbrev pub words_stepped : Machine → List (Option Run) → List (List ℕ) → ℕ → List Op → ℕ → List (List ℕ)
+abbrev pub words_stepped : Machine → List (Option Run) → List (List ℕ) → ℕ → List CpuOp → ℕ → List (List ℕ)
 words_stepped m inside words cpu [] done = words
 words_stepped m inside words cpu (op ∷ ops) done = slice_set words cpu (words_after (step_of op done (hand_at m cpu) m.places inside) (hand_at m cpu) (words_at words cpu))
 
 abbrev pub words_after_step : Machine → List (Option Run) → List (List ℕ) → ℕ → List (List ℕ)
 words_after_step m inside words cpu = let w = waiting_at m cpu in words_stepped m inside words cpu w.ops w.done
 
-abbrev pub modules_stepped : Machine → ModuleTable → ℕ → List Op → ℕ → ModuleTable
+abbrev pub modules_stepped : Machine → ModuleTable → ℕ → List CpuOp → ℕ → ModuleTable
 modules_stepped m ms cpu [] done = ms
 modules_stepped m ms cpu (op ∷ ops) done = modules_after (step_of op done (hand_at m cpu) m.places (inside_at ms cpu)) ms cpu
 
@@ -129,163 +125,67 @@ abbrev pub reads_of : CoreState → Actor → ℕ
 reads_of s (actor.Cpu cpu) = 0
 reads_of s actor.Manager = manager_reads s.modules
 
--- the section that an op names has a place among the runs
-abbrev pub SectionsFit : Op → ℕ → Type 0
-SectionsFit (Open key section index size) sections = section < sections
-SectionsFit (Close key) sections = Unit {0}
-SectionsFit (Split key parts first) sections = Unit {0}
-SectionsFit (Swap one two) sections = Unit {0}
-SectionsFit (Trim key bytes) sections = Unit {0}
-SectionsFit (Enter section) sections = section < sections
-SectionsFit (Leave section) sections = section < sections
-SectionsFit (Load section) sections = Unit {0}
-SectionsFit (Unload section) sections = Unit {0}
-SectionsFit Clean sections = Unit {0}
-
--- a tag's number is a 32-bit number
-abbrev pub TagFits : Op → List (Option Run) → Type 0
-TagFits (Open key section index size) inside = (tag_in inside section index).number < 2 ^ 32
-TagFits (Close key) inside = Unit {0}
-TagFits (Split key parts first) inside = Unit {0}
-TagFits (Swap one two) inside = Unit {0}
-TagFits (Trim key bytes) inside = Unit {0}
-TagFits (Enter section) inside = Unit {0}
-TagFits (Leave section) inside = Unit {0}
-TagFits (Load section) inside = Unit {0}
-TagFits (Unload section) inside = Unit {0}
-TagFits Clean inside = Unit {0}
-
--- the module that is entered can have one user more
-abbrev pub HasUserLeft : ListState → Option Entry → Type 0
-HasUserLeft list None = Unit {0}
-HasUserLeft list (Some e) = IsSomeAnd (entry_of list.area.entries e.id) (λ entry. (entry.state ≡ Loaded) × (entry.users < USER_LIMIT))
-
--- the module that is left has a user
-abbrev pub HasUser : ListState → Option Run → Type 0
-HasUser list None = Unit {0}
-HasUser list (Some r) = IsSomeAnd (entry_of list.area.entries r.id) (λ entry. 0 < entry.users)
-
--- the list can count a CPU that goes in or out
-abbrev pub ListFits : WordStep → ModuleTable → ℕ → Type 0
-ListFits (BeginAllocation tag) ms cpu = Unit {0}
-ListFits (AddBytes size) ms cpu = Unit {0}
-ListFits AddCall ms cpu = Unit {0}
-ListFits (SubtractBytes bytes) ms cpu = Unit {0}
-ListFits SubtractCall ms cpu = Unit {0}
-ListFits (Write key held next) ms cpu = Unit {0}
-ListFits (GoIn section) ms cpu = (cpu < length ms.inside) × (section < length (inside_at ms cpu)) × HasUserLeft ms.list (loaded_entry section ms.list)
-ListFits (GoOut section) ms cpu = (cpu < length ms.inside) × (section < length (inside_at ms cpu)) × HasUser ms.list (run_at (inside_at ms cpu) section)
-ListFits Rest ms cpu = Unit {0}
-
--- what a step of an op reads and writes is there
-abbrev pub CanStep : Machine → ModuleTable → List (List ℕ) → ℕ → List Op → ℕ → Type 0
-CanStep m ms words cpu [] done = Unit {0}
-CanStep m ms words cpu (op ∷ ops) done =
-    let step = step_of op done (hand_at m cpu) m.places (inside_at ms cpu) in
-    KeysFit op × (done < step_count op) × HasCall (hand_at m cpu) × SectionsFit op (length (inside_at ms cpu))
-    × (refusal_in m (scene_at ms cpu) (op ∷ ops) done ≡ None
-    → CanTake step (hand_at m cpu) (length (words_at words cpu)) (length m.places) × ListFits step ms cpu × (done ≡ 0 → TagFits op (inside_at ms cpu)))
-
--- what the CPU's next step reads and writes is there
-pub record CanGo (m : Machine) (ms : ModuleTable) (all : List (List ℕ)) (cpu : ℕ) : Type 0 where
-  pub hands : length m.hands ≡ length m.waiting
-  pub places : length m.places ≡ KEY_END
-  pub words : length all ≡ length m.waiting
-  pub inside : length ms.inside ≡ length m.waiting
-  pub step : cpu < length m.waiting → let w = waiting_at m cpu in CanStep m ms all cpu w.ops w.done
-
 -- ---- what may be queued
 
-pub record IsOpen (sections : List Section) (key section index size : ℕ) : Type 0 where
-  pub some_key : 0 < key
-  pub key_below : key < KEY_END
-  pub has_section : section < length sections
-  pub in_section : index < section_len sections section
-  pub some_bytes : 0 < size
-  pub size_below : size < SIZE_END
+-- the op as one of a CPU, and as one of the manager
+abbrev pub cpu_op : Op → Option CpuOp
+cpu_op (Open key section index size) = Some (by_cpu.Open key section index size)
+cpu_op (Close key) = Some (by_cpu.Close key)
+cpu_op (Split key parts first) = Some (by_cpu.Split key parts first)
+cpu_op (Swap one two) = Some (by_cpu.Swap one two)
+cpu_op (Trim key bytes) = Some (by_cpu.Trim key bytes)
+cpu_op (Enter section) = Some (by_cpu.Enter section)
+cpu_op (Leave section) = Some (by_cpu.Leave section)
+cpu_op other = None
 
--- keys are from 1 to 65,535
-pub record IsKey (key : ℕ) : Type 0 where
-  pub some_key : 0 < key
-  pub key_below : key < KEY_END
-
--- a split's last new key is one, and none of them is the key that is split
-pub record IsSplit (key parts first : ℕ) : Type 0 where
-  pub some_key : 0 < key
-  pub key_below : key < KEY_END
-  pub two_parts : 2 ≤ parts
-  pub few_parts : parts ≤ MAX_PARTS
-  pub some_first : 0 < first
-  pub last_below : first + parts - 2 < KEY_END
-  pub apart : is_new_key key parts first ≡ false
-
--- a swap is of two keys
-pub record IsSwap (one two : ℕ) : Type 0 where
-  pub first : IsKey one
-  pub second : IsKey two
-  pub apart : one ≢ two
-
-pub record IsTrim (key bytes : ℕ) : Type 0 where
-  pub some_key : 0 < key
-  pub key_below : key < KEY_END
-  pub some_bytes : 0 < bytes
-  pub bytes_below : bytes < SIZE_END
-
--- the section is a module's
-pub record IsModule (sections : List Section) (section : ℕ) : Type 0 where
-  pub behind_kernel : 0 < section
-  pub has_section : section < length sections
-
--- an op of a CPU
-abbrev pub IsOp : List Section → Op → Type 0
-IsOp sections (Open key section index size) = IsOpen sections key section index size
-IsOp sections (Close key) = IsKey key
-IsOp sections (Split key parts first) = IsSplit key parts first
-IsOp sections (Swap one two) = IsSwap one two
-IsOp sections (Trim key bytes) = IsTrim key bytes
-IsOp sections (Enter section) = IsModule sections section
-IsOp sections (Leave section) = IsModule sections section
-IsOp sections (Load section) = ⊥
-IsOp sections (Unload section) = ⊥
-IsOp sections Clean = ⊥
-
--- an op of the manager
-abbrev pub IsManagerOp : List Section → Op → Type 0
-IsManagerOp sections (Open key section index size) = ⊥
-IsManagerOp sections (Close key) = ⊥
-IsManagerOp sections (Split key parts first) = ⊥
-IsManagerOp sections (Swap one two) = ⊥
-IsManagerOp sections (Trim key bytes) = ⊥
-IsManagerOp sections (Enter section) = ⊥
-IsManagerOp sections (Leave section) = ⊥
-IsManagerOp sections (Load section) = IsModule sections section
-IsManagerOp sections (Unload section) = IsModule sections section
-IsManagerOp sections Clean = Unit {0}
+abbrev pub manager_op : Op → Option ManagerOp
+manager_op (Load section) = Some (by_manager.Load section)
+manager_op (Unload section) = Some (by_manager.Unload section)
+manager_op Clean = Some by_manager.Clean
+manager_op other = None
 
 -- an op of the actor
 abbrev pub IsOpOf : List Section → Actor → Op → Type 0
-IsOpOf sections (actor.Cpu cpu) op = IsOp sections op
-IsOpOf sections actor.Manager op = IsManagerOp sections op
+IsOpOf sections (actor.Cpu number) op = IsSomeAnd (cpu_op op) (IsOp sections)
+IsOpOf sections actor.Manager op = IsSomeAnd (manager_op op) (IsManagerOp sections)
 
 -- the actor is one of the shape
 abbrev pub IsActor : CoreState → Actor → Type 0
 IsActor s (actor.Cpu cpu) = cpu < s.shape.cpus
 IsActor s actor.Manager = Unit {0}
 
+-- a CPU's op, and one of the manager, as an op
+abbrev pub of_cpu : CpuOp → Op
+of_cpu (by_cpu.Open key section index size) = Open key section index size
+of_cpu (by_cpu.Close key) = Close key
+of_cpu (by_cpu.Split key parts first) = Split key parts first
+of_cpu (by_cpu.Swap one two) = Swap one two
+of_cpu (by_cpu.Trim key bytes) = Trim key bytes
+of_cpu (by_cpu.Enter section) = Enter section
+of_cpu (by_cpu.Leave section) = Leave section
+
+abbrev pub of_manager : ManagerOp → Op
+of_manager (by_manager.Load section) = Load section
+of_manager (by_manager.Unload section) = Unload section
+of_manager by_manager.Clean = Clean
+
+-- the ops that the actor has queued or under way
 abbrev pub ops_of : CoreState → Actor → List Op
-ops_of s (actor.Cpu cpu) = (waiting_at s.machine cpu).ops
-ops_of s actor.Manager = s.modules.manager.ops
+ops_of s (actor.Cpu number) = map of_cpu (waiting_at s.machine number).ops
+ops_of s actor.Manager = map of_manager s.modules.manager.ops
 
-abbrev pub with_op : Waiting → Op → Waiting
-with_op w op = record w { ops = w.ops ++ op ∷ [] }
+abbrev pub queued_cpu : CoreState → ℕ → Option CpuOp → CoreState
+queued_cpu s number None = s
+queued_cpu s number (Some op) = record s { machine = queued_on s.machine number op }
 
-abbrev pub with_managed : Managing → Op → Managing
-with_managed w op = record w { ops = w.ops ++ op ∷ [] }
+abbrev pub queued_manager : CoreState → Option ManagerOp → CoreState
+queued_manager s None = s
+queued_manager s (Some op) = record s { modules = record s.modules { manager = with_managed s.modules.manager op } }
 
 -- the op is the actor's last
 abbrev pub queued : CoreState → Actor → Op → CoreState
-queued s (actor.Cpu cpu) op = record s { machine = record s.machine { waiting = slice_set s.machine.waiting cpu (with_op (waiting_at s.machine cpu) op) } }
-queued s actor.Manager op = record s { modules = record s.modules { manager = with_managed s.modules.manager op } }
+queued s (actor.Cpu number) op = queued_cpu s number (cpu_op op)
+queued s actor.Manager op = queued_manager s (manager_op op)
 
 -- ---- what holds of a core
 
@@ -367,20 +267,17 @@ pub record IsWaiting (hand : Option Hand) (done : ℕ) : Type 0 where
   pub start : done ≡ 0 → hand ≡ None
 
 -- the hand and the places of an op after so many of its steps
-abbrev pub IsUnderWay : List Held → Option Hand → Op → ℕ → Type 0
-IsUnderWay places hand (Open key section index size) done = IsOpening places hand key size done
-IsUnderWay places hand (Close key) done = IsClosing hand done
-IsUnderWay places hand (Split key parts first) done = IsSplitting places hand key parts first done
-IsUnderWay places hand (Swap one two) done = IsSwapping places hand one two done
-IsUnderWay places hand (Trim key bytes) done = IsTrimming places hand key bytes done
-IsUnderWay places hand (Enter section) done = IsWaiting hand done
-IsUnderWay places hand (Leave section) done = IsWaiting hand done
-IsUnderWay places hand (Load section) done = IsWaiting hand done
-IsUnderWay places hand (Unload section) done = IsWaiting hand done
-IsUnderWay places hand Clean done = IsWaiting hand done
+abbrev pub IsUnderWay : List Held → Option Hand → CpuOp → ℕ → Type 0
+IsUnderWay places hand (by_cpu.Open key section index size) done = IsOpening places hand key size done
+IsUnderWay places hand (by_cpu.Close key) done = IsClosing hand done
+IsUnderWay places hand (by_cpu.Split key parts first) done = IsSplitting places hand key parts first done
+IsUnderWay places hand (by_cpu.Swap one two) done = IsSwapping places hand one two done
+IsUnderWay places hand (by_cpu.Trim key bytes) done = IsTrimming places hand key bytes done
+IsUnderWay places hand (by_cpu.Enter section) done = IsWaiting hand done
+IsUnderWay places hand (by_cpu.Leave section) done = IsWaiting hand done
 
 -- a CPU's hand fits what it does, and its ops may be queued
-abbrev pub IsReady : List Section → List Held → Option Hand → List Op → ℕ → Type 0
+abbrev pub IsReady : List Section → List Held → Option Hand → List CpuOp → ℕ → Type 0
 IsReady sections places hand [] done = (hand ≡ None) × (done ≡ 0)
 IsReady sections places hand (op ∷ ops) done = IsUnderWay places hand op done × IsOp sections op × AllByRecursion (IsOp sections) ops
 
@@ -394,16 +291,6 @@ pub record IsMachine (cpus : ℕ) (sections : List Section) (m : Machine) : Type
   pub places : length m.places ≡ KEY_END
   pub ready : (cpu : ℕ) → cpu < cpus → IsReadyAt sections m cpu
   pub apart : (i j key : ℕ) → i < cpus → j < cpus → i ≢ j → IsTrue (reserves key (waiting_at m i)) → IsTrue (reserves key (waiting_at m j)) → ⊥
-
--- what the manager's next step reads is there
-pub record CanManage (k : Shape) (sections : List Section) (words : List (List ℕ)) (ms : ModuleTable) : Type 0 where
-  pub checked : IsChecked k
-  pub ops : AllByRecursion (IsManagerOp sections) ms.manager.ops
-  pub some_tag : (section : ℕ) → section < length sections → 1 ≤ section_len sections section
-  pub cpus : length words ≡ k.cpus
-  pub own_words : (cpu : ℕ) → cpu < k.cpus → length (words_at words cpu) ≡ 2 * k.tags
-  pub area : ms.list.area.first + ms.list.area.tags ≡ k.tags
-  pub sweep : IsTrue (sweep_fits k ms.list.sweep (records_of ms.list))
 
 -- a run stands at its section, and has the section's tags, which are tags of the shape
 pub record RunFits (k : Shape) (sections : List Section) (section : ℕ) (r : Run) : Type 0 where
@@ -446,16 +333,6 @@ pub record IsCore (s : CoreState) : Type 0 where
   pub safe : Safe s.shape (word_state s)
 
 -- ---- a fresh core
-
-unfoldable pub no_places : List Held
-no_places = replicate KEY_END held.None
-
-abbrev pub fresh_machine : ℕ → Machine
-fresh_machine cpus = record { hands = replicate cpus None; places = no_places; waiting = replicate cpus nothing_waits }
-
--- no CPU is inside a module, and none was loaded
-abbrev pub fresh_modules : Shape → ℕ → ModuleTable
-fresh_modules k sections = record { inside = replicate k.cpus (replicate sections None); list = fresh_list k.kernel_tags (k.tags - k.kernel_tags); manager = nothing_managed }
 
 abbrev pub fresh : Shape → List Section → CoreState
 fresh shape sections = record {

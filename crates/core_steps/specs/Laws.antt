@@ -3,19 +3,19 @@ use Rattle.std.specs.Prelude.{◌≡◌, ℕ, ◌++◌, List, [], ◌∷◌, Non
 use Rattle.tag_model.specs.declared.state.Tag.{Tag}
 use Rattle.tag_model.specs.declared.state.Kind.TheVariants.{Calls}
 use Rattle.tag_model.specs.Moves.{Move}
-use Rattle.core_steps.specs.declared.op.Op.{Op}
+use Rattle.cpu_ops.specs.declared.op.CpuOp.{CpuOp}
 use Rattle.core_steps.specs.declared.op.Actor.{Actor}
 use Rattle.core_steps.specs.declared.op.Actor.TheVariants as actor
-use Rattle.core_steps.specs.Machine.{Waiting, waiting_at, moves_of_step}
-use Rattle.core_steps.specs.Modules.{inside_at}
+use Rattle.cpu_ops.specs.Machine.{Waiting, waiting_at, moves_of_step}
+use Rattle.module_ops.specs.Modules.{inside_at}
 use Rattle.core_steps.specs.CoreState.{CoreState, refused, stepped, run_of}
 
 -- the CPU's first op, of which it has taken so many steps
-abbrev pub waits_for : Op → List Op → ℕ → Waiting
+abbrev pub waits_for : CpuOp → List CpuOp → ℕ → Waiting
 waits_for op ops done = record { ops = op ∷ ops; done = done }
 
 -- the CPU's next step is the first of this op, and isn't refused
-pub record Begins (s : CoreState) (cpu : ℕ) (op : Op) (ops : List Op) : Type 0 where
+pub record Begins (s : CoreState) (cpu : ℕ) (op : CpuOp) (ops : List CpuOp) : Type 0 where
   pub waits : waiting_at s.machine cpu ≡ waits_for op ops 0
   pub free : refused s (actor.Cpu cpu) ≡ None
 

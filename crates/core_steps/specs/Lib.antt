@@ -1,5 +1,3 @@
-pub mod Machine
-pub mod Modules
 pub mod CoreState
 pub mod Moved
 pub mod StepsLeft

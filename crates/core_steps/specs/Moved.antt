@@ -7,8 +7,8 @@ use Rattle.tag_model.specs.declared.state.Kind.TheVariants.{Bytes, Calls}
 use Rattle.tag_model.specs.Moves.{Move, moved_word}
 use Rattle.core_steps.specs.declared.op.Actor.{Actor}
 use Rattle.core_steps.specs.declared.op.Actor.TheVariants as actor
-use Rattle.core_steps.specs.Machine.{Machine, after_step, moves_of_step}
-use Rattle.core_steps.specs.Modules.{ModuleTable, inside_at, managed}
+use Rattle.cpu_ops.specs.Machine.{Machine, after_step, moves_of_step}
+use Rattle.module_ops.specs.Modules.{ModuleTable, inside_at, managed}
 use Rattle.core_steps.specs.CoreState.{CoreState, modules_after_step}
 use Rattle.tag_section.specs.Section.{Section}
 

@@ -8,9 +8,9 @@ use Rattle.module_area.specs.declared.entry.State.TheVariants.{Dead}
 use Rattle.module_area.specs.Entries.{Covers, entry_of}
 use Rattle.core_list.specs.declared.list.Next.TheVariants.{Release}
 use Rattle.core_list.specs.ListState.{next_of}
-use Rattle.core_steps.specs.declared.op.Event.{Event}
-use Rattle.core_steps.specs.declared.op.Event.TheVariants.{Stepped, Released, Kept}
-use Rattle.core_steps.specs.Machine.{held_at, hand_at}
+use Rattle.module_ops.specs.declared.event.Event.{Event}
+use Rattle.module_ops.specs.declared.event.Event.TheVariants.{Stepped, Released, Kept}
+use Rattle.cpu_ops.specs.Machine.{held_at, hand_at}
 use Rattle.core_steps.specs.CoreState.{CoreState}
 
 -- the tag is of the module, or of its range

@@ -1,10 +1,10 @@
 -- What an event tells is there: a section that is a module's, and one of its tags.
 use Rattle.std.specs.Prelude.{◌<◌, List}
 use Rattle.tag_section.specs.Section.{Section}
-use Rattle.core_steps.specs.declared.op.Event.{Event}
-use Rattle.core_steps.specs.declared.op.Event.TheVariants.{Stepped, Released, Kept}
-use Rattle.core_steps.specs.Modules.{section_len}
-use Rattle.core_steps.specs.CoreState.{IsModule}
+use Rattle.module_ops.specs.declared.event.Event.{Event}
+use Rattle.module_ops.specs.declared.event.Event.TheVariants.{Stepped, Released, Kept}
+use Rattle.cpu_ops.specs.MayQueue.{section_len}
+use Rattle.cpu_ops.specs.MayQueue.{IsModule}
 
 abbrev pub EventFits : List Section → Event → Type 0
 EventFits sections Stepped = Unit {0}

@@ -9,14 +9,16 @@ ghost use Rattle.tag_model.specs.declared.state.Held.TheVariants as held;
 ghost use Rattle.tag_model.specs.declared.state.Kind.{Kind};
 ghost use Rattle.tag_model.specs.declared.state.Kind.TheVariants.{Bytes, Calls};
 ghost use Rattle.tag_model.specs.declared.state.Tag.{Tag};
-ghost use Rattle.core_steps.specs.declared.op.Op.{Op};
-ghost use Rattle.core_steps.specs.declared.op.Op.TheVariants.{Open, Close, Split, Swap, Trim, Enter, Leave, Load, Unload, Clean};
+ghost use Rattle.cpu_ops.specs.declared.op.CpuOp.{CpuOp};
+ghost use Rattle.cpu_ops.specs.declared.op.CpuOp.TheVariants.{Open, Close, Split, Swap, Trim, Enter, Leave};
+ghost use Rattle.module_ops.specs.declared.op.ManagerOp.{ManagerOp};
+ghost use Rattle.module_ops.specs.declared.op.ManagerOp.TheVariants.{Load};
 ghost use Rattle.module_area.specs.declared.entry.Entry.{Entry};
 ghost use Rattle.tag_model.specs.StepRules.{dead_ids};
 ghost use Rattle.core_list.specs.ListState.{loaded_entry, records_of, sweep_steps, tags_of};
-ghost use Rattle.core_steps.specs.Modules.{inside_at};
+ghost use Rattle.module_ops.specs.Modules.{inside_at};
 ghost use Rattle.core_steps.specs.declared.op.Actor.TheVariants as actor;
-ghost use Rattle.core_steps.specs.Machine.{hand_at, held_at, waiting_at, step_count, moves_of_step};
+ghost use Rattle.cpu_ops.specs.Machine.{hand_at, held_at, waiting_at, step_count, moves_of_step};
 ghost use Rattle.core_steps.specs.CoreState.{CoreState, IsCore, refused, stepped, word_state, total_of};
 ghost use Rattle.core_steps.specs.Laws.{Begins, waits_for, after_steps, moves_of_run, call_move};
 
@@ -31,10 +33,10 @@ pub fn step_counts_are_exact()
     ensures enter { (section : ℕ) → step_count (Enter section) ≡ 1 }
     ensures leave { (section : ℕ) → step_count (Leave section) ≡ 1 }
     // A load is over with its one step.
-    ensures load { (s : CoreState) (section : ℕ) (ops : List Op) → s.modules.manager ≡ record { ops = Load section ∷ ops; under_way = false } → (stepped s actor.Manager).modules.manager ≡ record { ops = ops; under_way = false } }
-    ensures under_way { (s : CoreState) (cpu i : ℕ) (op : Op) (ops : List Op) → IsCore s → Begins s cpu op ops → i < step_count op → waiting_at (after_steps s cpu i).machine cpu ≡ waits_for op ops i }
-    ensures unrefused { (s : CoreState) (cpu i : ℕ) (op : Op) (ops : List Op) → IsCore s → Begins s cpu op ops → i < step_count op → refused (after_steps s cpu i) (actor.Cpu cpu) ≡ None }
-    ensures ended { (s : CoreState) (cpu : ℕ) (op : Op) (ops : List Op) → IsCore s → Begins s cpu op ops → waiting_at (after_steps s cpu (step_count op)).machine cpu ≡ record { ops = ops; done = 0 } }
+    ensures load { (s : CoreState) (section : ℕ) (ops : List ManagerOp) → s.modules.manager ≡ record { ops = Load section ∷ ops; under_way = false } → (stepped s actor.Manager).modules.manager ≡ record { ops = ops; under_way = false } }
+    ensures under_way { (s : CoreState) (cpu i : ℕ) (op : CpuOp) (ops : List CpuOp) → IsCore s → Begins s cpu op ops → i < step_count op → waiting_at (after_steps s cpu i).machine cpu ≡ waits_for op ops i }
+    ensures unrefused { (s : CoreState) (cpu i : ℕ) (op : CpuOp) (ops : List CpuOp) → IsCore s → Begins s cpu op ops → i < step_count op → refused (after_steps s cpu i) (actor.Cpu cpu) ≡ None }
+    ensures ended { (s : CoreState) (cpu : ℕ) (op : CpuOp) (ops : List CpuOp) → IsCore s → Begins s cpu op ops → waiting_at (after_steps s cpu (step_count op)).machine cpu ≡ record { ops = ops; done = 0 } }
 {}
 
 /// Where no CPU has a hand, the words of a tag, added over the CPUs, are the bytes and the references that its
@@ -48,10 +50,10 @@ pub fn quiet_totals_are_those_of_the_live_list()
 pub fn a_split_adds_calls_and_no_bytes()
     // Whatever other CPUs do in between, its first step counts nothing, and each later one with the hand's tag a
     // call while calls are added.
-    ensures first_step { (s : CoreState) (cpu key parts first : ℕ) (ops : List Op) → waiting_at s.machine cpu ≡ waits_for (Split key parts first) ops 0 → moves_of_step s.machine (inside_at s.modules cpu) cpu ≡ [] }
-    ensures later_steps { (s : CoreState) (cpu key parts first done : ℕ) (hand : Hand) (ops : List Op) → IsCore s → waiting_at s.machine cpu ≡ waits_for (Split key parts first) ops done → hand_at s.machine cpu ≡ Some hand → moves_of_step s.machine (inside_at s.modules cpu) cpu ≡ (if nat_lt done parts then call_move cpu hand.tag ∷ [] else []) }
+    ensures first_step { (s : CoreState) (cpu key parts first : ℕ) (ops : List CpuOp) → waiting_at s.machine cpu ≡ waits_for (Split key parts first) ops 0 → moves_of_step s.machine (inside_at s.modules cpu) cpu ≡ [] }
+    ensures later_steps { (s : CoreState) (cpu key parts first done : ℕ) (hand : Hand) (ops : List CpuOp) → IsCore s → waiting_at s.machine cpu ≡ waits_for (Split key parts first) ops done → hand_at s.machine cpu ≡ Some hand → moves_of_step s.machine (inside_at s.modules cpu) cpu ≡ (if nat_lt done parts then call_move cpu hand.tag ∷ [] else []) }
     // All its steps, one after another.
-    ensures moves { (s : CoreState) (cpu key parts first size : ℕ) (tag : Tag) (ops : List Op) → IsCore s → Begins s cpu (Split key parts first) ops → held_at s.machine.places key ≡ held.Counted tag size → moves_of_run s (replicate (2 * parts) (actor.Cpu cpu)) ≡ replicate (parts - 1) (call_move cpu tag) }
-    ensures bytes { (s : CoreState) (cpu key parts first t : ℕ) (ops : List Op) → IsCore s → Begins s cpu (Split key parts first) ops → live_total Bytes t (live_of (word_state (after_steps s cpu (2 * parts)))) ≡ live_total Bytes t (live_of (word_state s)) }
-    ensures calls { (s : CoreState) (cpu key parts first size t : ℕ) (tag : Tag) (ops : List Op) → IsCore s → Begins s cpu (Split key parts first) ops → held_at s.machine.places key ≡ held.Counted tag size → live_total Calls t (live_of (word_state (after_steps s cpu (2 * parts)))) ≡ live_total Calls t (live_of (word_state s)) + (if tag.number == t then parts - 1 else 0) }
+    ensures moves { (s : CoreState) (cpu key parts first size : ℕ) (tag : Tag) (ops : List CpuOp) → IsCore s → Begins s cpu (Split key parts first) ops → held_at s.machine.places key ≡ held.Counted tag size → moves_of_run s (replicate (2 * parts) (actor.Cpu cpu)) ≡ replicate (parts - 1) (call_move cpu tag) }
+    ensures bytes { (s : CoreState) (cpu key parts first t : ℕ) (ops : List CpuOp) → IsCore s → Begins s cpu (Split key parts first) ops → live_total Bytes t (live_of (word_state (after_steps s cpu (2 * parts)))) ≡ live_total Bytes t (live_of (word_state s)) }
+    ensures calls { (s : CoreState) (cpu key parts first size t : ℕ) (tag : Tag) (ops : List CpuOp) → IsCore s → Begins s cpu (Split key parts first) ops → held_at s.machine.places key ≡ held.Counted tag size → live_total Calls t (live_of (word_state (after_steps s cpu (2 * parts)))) ≡ live_total Calls t (live_of (word_state s)) + (if tag.number == t then parts - 1 else 0) }
 {}

@@ -3,16 +3,9 @@
 #![tactic(auto)]
 
 pub mod bounds;
-mod inside;
 pub mod laws;
 pub mod machine;
-mod managing;
-mod modules;
 pub mod op;
-mod pending;
-mod refusal;
 pub mod run;
-mod step;
 #[cfg(test)]
 mod tests;
-mod words;

@@ -1,27 +1,23 @@
 //! The core: every CPU's words, hand and ops, every place, and the modules, on plain vectors.
 
-ghost use Rattle.tag_model.specs.WordState.{word_place};
-ghost use Rattle.std.specs.Prelude.{All, [], slice_index, ◌≡◌, ℕ, ◌*◌, ◌+◌, ◌<◌, ◌≤◌, ◌↔◌, length, replicate, MatchOption, IfOk, OnOk, OnErr, IsErrOf, Some, None, slice_get, slice_index_or, slice_set, List, IsTrue};
+ghost use Rattle.std.specs.Prelude.{All, [], ◌≡◌, ℕ, ◌*◌, ◌+◌, ◌<◌, ◌≤◌, ◌↔◌, length, replicate, MatchOption, IfOk, OnOk, OnErr, Some, None, List, IsTrue};
 ghost use Rattle.tag_model.specs.Shape.{IsChecked};
 ghost use Rattle.tag_model.specs.StepRules.{StepsWith};
 ghost use Rattle.tag_model.specs.Laws.{Safe};
-ghost use Rattle.core_steps.specs.declared.op.TheConstants.{MAX_QUEUED};
-ghost use Rattle.core_steps.specs.Machine.{waiting_at, nothing_waits, after_step, refusal_of, machine_of};
-ghost use Rattle.core_steps.specs.Modules.{inside_at, scene_at};
-ghost use Rattle.core_steps.specs.CoreState.{CanGo, words_after_step, modules_after_step, with_op, words_at, total_of};
-ghost use Rattle.tag_model.specs.declared.state.Held.TheVariants as held;
+ghost use Rattle.cpu_ops.specs.declared.op.TheConstants.{MAX_QUEUED};
+ghost use Rattle.cpu_ops.specs.Machine.{waiting_at, queued_on};
+ghost use Rattle.cpu_ops.specs.MayQueue.{IsOp};
+ghost use Rattle.module_ops.specs.Modules.{IsManagerOp, with_managed, words_at};
+ghost use Rattle.core_steps.specs.CoreState.{total_of};
 
-use crate::modules::ModuleTable;
-use crate::op::{Actor, Event, KEY_END, MAX_QUEUED, Op, QueueError, StepRefused};
-use crate::pending::Pending;
-use crate::refusal::first_refusal;
-use crate::step::{self, next_step};
-use crate::words::CpuWords;
+use crate::op::{Actor, Event, MAX_QUEUED, Op, QueueError, StepRefused};
+use cpu_ops::{CpuOp, CpuWords, Machine};
 use module_area::Book;
+use module_ops::{ManagerOp, ModuleTable};
 use std::alloc::{AllocError, Global};
 use std::marker::Model;
 use tag_model::shape::Shape;
-use tag_model::state::{Hand, Held, Kind};
+use tag_model::state::Kind;
 use tag_section::Sections;
 
 /// The word machine.
@@ -29,9 +25,7 @@ use tag_section::Sections;
 pub struct Core {
     shape: Shape,
     sections: Sections,
-    hands: Vec<Option<Hand>>,
-    places: Vec<Held>,
-    waiting: Vec<Pending>,
+    machine: Machine,
     words: Vec<CpuWords>,
     modules: ModuleTable,
 }
@@ -41,29 +35,9 @@ impl Model for Core {
 
     ghost Value = { CoreState };
 
-    ghost view = { λ c. record { shape = c.shape; sections = c.sections; machine = record { hands = c.hands.items; places = c.places.items; waiting = c.waiting.items }; words = c.words.items; modules = c.modules } };
+    ghost view = { λ c. record { shape = c.shape; sections = c.sections; machine = c.machine; words = c.words.items; modules = c.modules } };
 
-    ghost invariant = { λ c. IsCore (record { shape = c.shape; sections = c.sections; machine = record { hands = c.hands.items; places = c.places.items; waiting = c.waiting.items }; words = c.words.items; modules = c.modules }) };
-}
-
-fn no_hands(alloc: Global, cpus: u32) -> Result<Vec<Option<Hand>>, AllocError>
-    ensures { IfOk result (λ v. v.items ≡ replicate cpus None) }
-{
-    let mut hands = Vec::with_capacity(alloc, cpus as usize)?;
-    for _cpu in 0..cpus {
-        hands.push(None)?;
-    }
-    Ok(hands)
-}
-
-fn no_ops(alloc: Global, cpus: u32) -> Result<Vec<Pending>, AllocError>
-    ensures { IfOk result (λ v. v.items ≡ replicate cpus nothing_waits) }
-{
-    let mut waiting = Vec::with_capacity(alloc, cpus as usize)?;
-    for _cpu in 0..cpus {
-        waiting.push(Pending::new(alloc))?;
-    }
-    Ok(waiting)
+    ghost invariant = { λ c. IsCore (record { shape = c.shape; sections = c.sections; machine = c.machine; words = c.words.items; modules = c.modules }) };
 }
 
 fn no_words(alloc: Global, cpus: u32, tags: u32) -> Result<Vec<CpuWords>, AllocError>
@@ -74,39 +48,6 @@ fn no_words(alloc: Global, cpus: u32, tags: u32) -> Result<Vec<CpuWords>, AllocE
         words.push(CpuWords::new(alloc, tags)?)?;
     }
     Ok(words)
-}
-
-fn empty_places(alloc: Global, count: u32) -> Result<Vec<Held>, AllocError>
-    ensures { IfOk result (λ v. v.items ≡ replicate count held.None) }
-{
-    let mut places = Vec::with_capacity(alloc, count as usize)?;
-    for _key in 0..count {
-        places.push(Held::None)?;
-    }
-    Ok(places)
-}
-
-fn is_idle(waiting: &[Pending], cpu: usize) -> bool
-    ensures { IsTrue result ↔ ((slice_index_or waiting.now cpu nothing_waits).ops ≡ []) }
-{
-    match waiting.get(cpu) {
-        Some(pending) => pending.is_empty(),
-        None => true,
-    }
-}
-
-fn push_op(pending: &mut Pending, op: Op) -> Result<(), QueueError>
-    ensures ok { OnOk result (pending.new ≡ with_op pending.old op) }
-    ensures full { (result ≡ Err QueueError.QueueFull) ↔ (MAX_QUEUED ≤ length pending.old.ops) }
-    ensures err { OnErr result (pending.new ≡ pending.old) }
-{
-    if pending.len() >= MAX_QUEUED {
-        return Err(QueueError::QueueFull);
-    }
-    match pending.push(op) {
-        Ok(()) => Ok(()),
-        Err(refused) => Err(QueueError::Memory(refused)),
-    }
 }
 
 /// The words of a kind of a tag, added over the CPUs. They wrap.
@@ -121,44 +62,11 @@ fn total(words: &[CpuWords], kind: Kind, tag: u32) -> u64
     total
 }
 
-/// Takes the CPU's next step, or says why it is refused.
-fn step_on(
-    cpu: usize,
-    hands: &mut [Option<Hand>],
-    places: &mut [Held],
-    waiting: &mut [Pending],
-    words: &mut [CpuWords],
-    modules: &mut ModuleTable,
-) -> Result<Event, StepRefused>
-    requires { CanGo (machine_of hands.old places.old waiting.old) modules.old words.old cpu }
-    ensures answer { let m = machine_of hands.old places.old waiting.old in
-        MatchOption (refusal_of m (scene_at modules.old cpu) cpu) (result ≡ Ok Event.Stepped) (λ r. result ≡ Err r) }
-    ensures ok { let m = machine_of hands.old places.old waiting.old in
-        OnOk result ((machine_of hands.new places.new waiting.new ≡ after_step m (inside_at modules.old cpu) cpu) × (words.new ≡ words_after_step m (inside_at modules.old cpu) words.old cpu) × (modules.new ≡ modules_after_step m modules.old cpu)) }
-    ensures err { OnErr result ((hands.new ≡ hands.old) × (places.new ≡ places.old) × (waiting.new ≡ waiting.old) × (words.new ≡ words.old) × (modules.new ≡ modules.old)) }
-{
-    if cpu >= waiting.len() {
-        return Err(StepRefused::NoStep);
-    }
-    let Some(op) = waiting[cpu].first() else {
-        return Err(StepRefused::NoStep);
-    };
-    let done = waiting[cpu].done();
-    if done == 0
-        && let Some(refused) = first_refusal(op, places, waiting, modules, cpu)
-    {
-        return Err(refused);
-    }
-    let step = next_step(op, done, hands[cpu], places, modules.inside(cpu));
-    step::take(step, &mut words[cpu], &mut hands[cpu], places);
-    modules.take(step, cpu);
-    waiting[cpu].advance(op);
-    Ok(Event::Stepped)
-}
-
 impl Core {
     ghost use Rattle.module_area.specs.Area.{IsBook};
-    ghost use Rattle.core_steps.specs.CoreState.{CoreState, IsCore, IsActor, IsOp, IsManagerOp, IsOpOf, EntryFits, SectionsFitShape, fresh, queued, ops_of, refused, stepped, event_of, reads_of, state_after, word_state, total_of, word_at};
+    ghost use Rattle.core_steps.specs.CoreState.{CoreState, IsCore, IsActor, IsOpOf, EntryFits, SectionsFitShape, fresh, queued, ops_of, refused, stepped, event_of, reads_of, state_after, word_state, word_at};
+    ghost use Rattle.cpu_ops.specs.MayQueue.{IsOp};
+    ghost use Rattle.module_ops.specs.Modules.{IsManagerOp};
     ghost use Rattle.core_steps.specs.Release.{IfReleases};
     ghost use Rattle.core_steps.specs.Told.{EventFits};
     ghost use Rattle.core_steps.specs.StepsLeft.{steps_left, cpu_steps_left, manager_steps_left};
@@ -177,9 +85,7 @@ impl Core {
     {
         Ok(Core {
             shape,
-            hands: no_hands(alloc, shape.cpus)?,
-            places: empty_places(alloc, KEY_END)?,
-            waiting: no_ops(alloc, shape.cpus)?,
+            machine: Machine::new(alloc, shape.cpus)?,
             words: no_words(alloc, shape.cpus, shape.tags)?,
             modules: ModuleTable::new(alloc, shape, sections.count())?,
             sections,
@@ -195,25 +101,31 @@ impl Core {
         ensures err { OnErr result (self.new ≡ self.old) }
     {
         match actor {
-            Actor::Cpu(cpu) => self.queue_on(cpu, op),
-            Actor::Manager => self.queue_for_manager(op),
+            Actor::Cpu(cpu) => match op.of_cpu() {
+                Some(op) => self.queue_on(cpu, op),
+                None => Ok(()),
+            },
+            Actor::Manager => match op.of_manager() {
+                Some(op) => self.queue_for_manager(op),
+                None => Ok(()),
+            },
         }
     }
 
-    fn queue_on(&mut self, cpu: u32, op: Op) -> Result<(), QueueError>
+    fn queue_on(&mut self, cpu: u32, op: CpuOp) -> Result<(), QueueError>
         requires cpu { cpu < self.old.shape.cpus }
         requires op { IsOp self.old.sections op }
-        ensures ok { OnOk result (self.new ≡ queued self.old (Actor.Cpu cpu) op) }
-        ensures full { (result ≡ Err QueueError.QueueFull) ↔ (MAX_QUEUED ≤ length (ops_of self.old (Actor.Cpu cpu))) }
+        ensures ok { OnOk result (self.new ≡ record self.old { machine = queued_on self.old.machine cpu op }) }
+        ensures full { (result ≡ Err QueueError.QueueFull) ↔ (MAX_QUEUED ≤ length (waiting_at self.old.machine cpu).ops) }
         ensures err { OnErr result (self.new ≡ self.old) }
     {
-        push_op(&mut self.waiting[cpu as usize], op)
+        self.machine.queue(cpu as usize, op)
     }
 
-    fn queue_for_manager(&mut self, op: Op) -> Result<(), QueueError>
+    fn queue_for_manager(&mut self, op: ManagerOp) -> Result<(), QueueError>
         requires { IsManagerOp self.old.sections op }
-        ensures ok { OnOk result (self.new ≡ queued self.old Actor.Manager op) }
-        ensures full { (result ≡ Err QueueError.QueueFull) ↔ (MAX_QUEUED ≤ length (ops_of self.old Actor.Manager)) }
+        ensures ok { OnOk result (self.new ≡ record self.old { modules = record self.old.modules { manager = with_managed self.old.modules.manager op } }) }
+        ensures full { (result ≡ Err QueueError.QueueFull) ↔ (MAX_QUEUED ≤ length self.old.modules.manager.ops) }
         ensures err { OnErr result (self.new ≡ self.old) }
     {
         self.modules.queue(op)
@@ -253,30 +165,26 @@ impl Core {
     {
         self.tell();
         match actor {
-            Actor::Cpu(cpu) => self.go_on(cpu),
-            Actor::Manager => self.manage(),
+            Actor::Cpu(cpu) => self.go_cpu(cpu),
+            Actor::Manager => self.go_manager(),
         }
     }
 
-    fn go_on(&mut self, cpu: u32) -> Result<Event, StepRefused>
-        ensures answer { MatchOption (refused self.old (Actor.Cpu cpu)) (result ≡ Ok Event.Stepped) (λ r. result ≡ Err r) }
+    fn go_cpu(&mut self, cpu: u32) -> Result<Event, StepRefused>
+        ensures answer { MatchOption (refused self.old (Actor.Cpu cpu)) (result ≡ Ok Event.Stepped) (λ why. result ≡ Err why) }
         ensures ok { OnOk result (self.new ≡ stepped self.old (Actor.Cpu cpu)) }
         ensures err { OnErr result (self.new ≡ self.old) }
-        ensures row { (reads : ℕ) → OnOk result (StepsWith self.old.shape (state_after reads self.old) (state_after reads self.new)) }
-        ensures left { OnOk result (cpu_steps_left self.old.machine cpu ≡ cpu_steps_left self.new.machine cpu + 1) }
-        ensures moved { (moves : List Move) → HasMoved self.old moves → OnOk result (self.new ≡ moved_on self.old (Actor.Cpu cpu) moves) }
     {
-        step_on(
-            cpu as usize,
-            self.hands.as_mut_slice(),
-            self.places.as_mut_slice(),
-            self.waiting.as_mut_slice(),
-            self.words.as_mut_slice(),
-            &mut self.modules,
-        )
+        if cpu >= self.shape.cpus {
+            return Err(StepRefused::NoStep);
+        }
+        let at = cpu as usize;
+        let step = self.machine.step(at, &self.modules.scene(at), &mut self.words[at])?;
+        self.modules.take(step, at);
+        Ok(Event::Stepped)
     }
 
-    fn manage(&mut self) -> Result<Event, StepRefused>
+    fn go_manager(&mut self) -> Result<Event, StepRefused>
         ensures answer { MatchOption (refused self.old Actor.Manager) (result ≡ Ok (event_of self.old Actor.Manager)) (λ r. result ≡ Err r) }
         ensures ok { OnOk result (self.new ≡ stepped self.old Actor.Manager) }
         ensures err { OnErr result (self.new ≡ self.old) }
@@ -326,7 +234,7 @@ impl Core {
         ensures empty { IsTrue result ↔ ((waiting_at self.now.machine cpu).ops ≡ []) }
         ensures left { IsTrue result ↔ (cpu_steps_left self.now.machine cpu ≡ 0) }
     {
-        is_idle(self.waiting.as_slice(), cpu as usize)
+        self.machine.is_idle(cpu as usize)
     }
 
     fn is_manager_idle(&self) -> bool
@@ -364,7 +272,7 @@ impl Core {
     }
 
     /// Tells what holds of every core, and does nothing.
-    pub(crate) fn tell(&self)
+    pub fn tell(&self)
         ensures { IsCore self.now }
     {
         let _shape = self.shape;

@@ -1,26 +1,13 @@
-//! What actors do, and what a step of theirs answers.
+//! What actors do.
 
 ghost use Rattle.std.specs.Prelude.{◌≡◌};
-ghost use Rattle.core_steps.specs.declared.op.TheConstants.{KEY_END, MAX_QUEUED, MAX_PARTS};
+ghost use Rattle.core_steps.specs.CoreState.{cpu_op, manager_op};
 
-use std::alloc::AllocError;
-use tag_model::state::Kind;
+pub use cpu_ops::{KEY_END, MAX_PARTS, MAX_QUEUED, QueueError, StepRefused};
+pub use module_ops::{Cause, Event};
 
-/// Keys are from 1 up to, and without, this.
-pub const KEY_END: u32 = 65_536;
-
-/// The most ops that an actor has queued or under way.
-pub const MAX_QUEUED: usize = 65_536;
-
-/// The most parts of a split.
-pub const MAX_PARTS: u32 = 1_024;
-
-/// The limits, as numbers.
-pub fn limits_are_these()
-    ensures keys { KEY_END ≡ 65536 }
-    ensures queued { MAX_QUEUED ≡ 65536 }
-    ensures parts { MAX_PARTS ≡ 1024 }
-{}
+use cpu_ops::CpuOp;
+use module_ops::ManagerOp;
 
 /// Who takes a step.
 #[derive(Clone, Copy, Debug, PartialEq, Eq)]
@@ -81,66 +68,42 @@ pub enum Op {
     Clean,
 }
 
-/// Which op a sweep is of.
-#[derive(Clone, Copy, Debug, PartialEq, Eq)]
-pub enum Cause {
-    Unload,
-    Clean,
-}
+impl Op {
+    /// The op as one of a CPU.
+    pub(crate) fn of_cpu(self) -> Option<CpuOp>
+        ensures { result ≡ cpu_op self }
+    {
+        Some(match self {
+            Op::Open {
+                key,
+                section,
+                index,
+                size,
+            } => CpuOp::Open {
+                key,
+                section,
+                index,
+                size,
+            },
+            Op::Close { key } => CpuOp::Close { key },
+            Op::Split { key, parts, first } => CpuOp::Split { key, parts, first },
+            Op::Swap { one, two } => CpuOp::Swap { one, two },
+            Op::Trim { key, bytes } => CpuOp::Trim { key, bytes },
+            Op::Enter { section } => CpuOp::Enter { section },
+            Op::Leave { section } => CpuOp::Leave { section },
+            Op::Load { .. } | Op::Unload { .. } | Op::Clean => return None,
+        })
+    }
 
-/// What a step that was taken tells.
-#[derive(Clone, Copy, Debug, PartialEq, Eq)]
-pub enum Event {
-    Stepped,
-    /// A module's range is released.
-    Released {
-        section: u32,
-        by: Cause,
-    },
-    /// A module's range is kept, since the words of one of its tags don't sum up to 0.
-    Kept {
-        section: u32,
-        index: u32,
-        kind: Kind,
-        sum: u64,
-        by: Cause,
-    },
-}
-
-/// Why a step isn't taken.
-#[derive(Clone, Copy, Debug, PartialEq, Eq)]
-pub enum StepRefused {
-    /// The actor's queue is empty.
-    NoStep,
-    /// The manager holds the module list.
-    ListHeld,
-    /// The key has no reference, or an op under way names it.
-    NotLive(u32),
-    /// The key holds something, or an op under way names it.
-    KeyUsed(u32),
-    /// The CPU isn't inside the section's module.
-    NotRunning(u32),
-    /// The CPU is inside the section's module.
-    Inside(u32),
-    /// The section has no loaded module.
-    NotLoaded(u32),
-    /// The section has a loaded module.
-    AlreadyLoaded(u32),
-    /// So many CPUs are inside the module.
-    Busy(u32),
-    /// The module list is full, or the last id is given.
-    Full,
-    /// No range of the area is free for the module.
-    NoRoom,
-    /// The size can't be divided into so many equal parts.
-    Uneven,
-    /// A trim takes no fewer bytes than the reference has.
-    TooSmall,
-}
-
-/// Why an op isn't queued.
-#[derive(Debug, Drop)]
-pub enum QueueError {
-    QueueFull,
-    Memory(AllocError),
+    /// The op as one of the manager.
+    pub(crate) fn of_manager(self) -> Option<ManagerOp>
+        ensures { result ≡ manager_op self }
+    {
+        match self {
+            Op::Load { section } => Some(ManagerOp::Load { section }),
+            Op::Unload { section } => Some(ManagerOp::Unload { section }),
+            Op::Clean => Some(ManagerOp::Clean),
+            _ => None,
+        }
+    }
 }

@@ -1,8 +1,9 @@
 //! Schedules whose words and events are known, played step by step.
 
 ghost use Rattle.std.specs.Prelude.{◌≡◌, ◌<◌, ◌≤◌, ◌&&◌, ℕ, nat_lt, length, IsTrue, IfOk};
-ghost use Rattle.core_steps.specs.CoreState.{IsOp, IsManagerOp, IsModule, IsSplit};
-ghost use Rattle.core_steps.specs.Modules.{section_len};
+ghost use Rattle.cpu_ops.specs.MayQueue.{IsOp, IsModule, IsSplit};
+ghost use Rattle.module_ops.specs.Modules.{IsManagerOp};
+ghost use Rattle.cpu_ops.specs.MayQueue.{section_len};
 
 use crate::machine::Core;
 use crate::op::{Actor, Cause, Event, KEY_END, MAX_PARTS, Op, QueueError, StepRefused};

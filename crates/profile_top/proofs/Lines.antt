@@ -7,7 +7,7 @@ use Rattle.std.proofs.lemmas.List.Elements.{All-from_recursion}
 use Rattle.tag_model.specs.Shape.{IsChecked}
 use Rattle.tag_section.specs.Section.{Section}
 use Rattle.core_steps.specs.CoreState.{CoreState, IsOpOf, SectionsFitShape, fresh}
-use Rattle.core_steps.specs.Machine.{is_new_key}
+use Rattle.cpu_ops.specs.Machine.{is_new_key}
 use Rattle.core_steps.proofs.Meaning.{core_of_fresh}
 use Rattle.trace.specs.declared.code.Code.{Code}
 use Rattle.trace.specs.declared.steps.StepAct.{StepAct}

@@ -9,9 +9,9 @@ use Rattle.module_area.specs.declared.entry.Entry.{Entry}
 use Rattle.module_area.specs.Area.{Area, IsBook, LiesIn}
 use Rattle.module_area.specs.Entries.{is_loaded_as, entry_of, id_loaded}
 use Rattle.module_area.proofs.EntryLemmas.{find_some}
-use Rattle.core_steps.specs.Modules.{section_len}
+use Rattle.cpu_ops.specs.MayQueue.{section_len}
 use Rattle.core_steps.specs.CoreState.{EntryFits}
-use Rattle.core_steps.proofs.Loaded.{entry_is_found, loaded_at}
+use Rattle.cpu_ops.proofs.LoadedEntry.{entry_is_found, loaded_at}
 use Rattle.core_list.proofs.Split.{entry_holds}
 
 -- the entry that the id of a section's loaded module leads to

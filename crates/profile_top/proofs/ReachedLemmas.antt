@@ -1,6 +1,5 @@
 -- Every state that a schedule passes through is that of a core.
 use Rattle.std.proofs.Common.{◌≡◌, ℕ, zero, suc, ◌+◌, ◌<◌, ◌==◌, nat_lt, List, [], ◌∷◌, length, refl, sym, ap, ◌∙◌, subst, arith, append-nil, Option, Some, None, Bool, true, false, cond, Result, Ok, Err, All}
-use Rattle.std.proofs.lemmas.List.{get_or_default}
 use Rattle.std.specs.List.{AllByRecursion}
 use Rattle.tag_model.specs.declared.state.Kind.{Kind}
 use Rattle.tag_model.specs.Laws.{live_of}
@@ -9,20 +8,23 @@ use Rattle.tag_model.specs.Wrap.{wrap}
 use Rattle.core_steps.specs.declared.op.Actor.{Actor}
 use Rattle.core_steps.specs.declared.op.Actor.TheVariants as actor
 use Rattle.core_steps.specs.declared.op.Op.{Op}
-use Rattle.core_steps.specs.declared.op.StepRefused.{StepRefused}
-use Rattle.core_steps.specs.Machine.{Waiting, hand_at, nothing_waits, waiting_at}
-use Rattle.core_steps.specs.CoreState.{CoreState, IsCore, IsActor, IsOpOf, event_of, fresh, no_places, ops_of, refused, stepped, with_op, word_state}
-use Rattle.core_steps.specs.Modules.{managed}
+use Rattle.cpu_ops.specs.declared.op.CpuOp.{CpuOp}
+use Rattle.module_ops.specs.declared.op.ManagerOp.{ManagerOp}
+use Rattle.core_steps.specs.CoreState.{cpu_op, manager_op, queued_cpu, queued_manager}
+use Rattle.cpu_ops.specs.declared.refused.StepRefused.{StepRefused}
+use Rattle.cpu_ops.specs.Machine.{hand_at}
+use Rattle.core_steps.specs.CoreState.{CoreState, IsCore, IsActor, IsOpOf, event_of, fresh, ops_of, refused, stepped, word_state}
+use Rattle.module_ops.specs.Modules.{managed}
 use Rattle.core_steps.specs.Moved.{core_of}
 use Rattle.tag_model.specs.Moves.{Move}
 use Rattle.core_steps.specs.Release.{IfReleases}
 use Rattle.core_steps.specs.StepsLeft.{steps_left}
 use Rattle.core_steps.proofs.Fresh.{core_fresh}
 use Rattle.core_steps.proofs.Kept.{gone}
-use Rattle.core_steps.proofs.ManagerCore.{manager_core, queued_manager}
+use Rattle.core_steps.proofs.ManagerCore.{manager_core}
 use Rattle.core_steps.proofs.ManagerRelease.{manager_releases}
 use Rattle.core_steps.proofs.Meaning.{core_of_fresh, moved_after, managed_after}
-use Rattle.core_steps.proofs.Queued.{core_after_queue}
+use Rattle.core_steps.proofs.Queued.{core_queued}
 use Rattle.core_steps.proofs.Quiet.{quiet_totals}
 use Rattle.trace.specs.declared.code.Code.{Code}
 use Rattle.trace.specs.declared.code.Code.TheVariants as code
@@ -42,8 +44,7 @@ use Rattle.profile_top.proofs.Totals.{total_here}
 -- ---- a reached state is that of a core
 
 first_core : (s : Setting) → IsSetting s → IsCore (core_played s (nothing_played s))
-unfolding no_places
-first_core s is = subst IsCore (core_of_fresh s.shape s.sections) (core_fresh s.shape s.sections _ _ _ _ _ is.shape is.sections refl refl refl refl refl)
+first_core s is = subst IsCore (core_of_fresh s.shape s.sections) (core_fresh s.shape s.sections _ _ _ is.shape is.sections refl refl refl)
 
 -- the core that a step leads to
 step_core : (s : Setting) (p : Played) (who : Actor) → IsCore (core_played s p) → refused (core_played s p) who ≡ None → IsCore (core_played s (with_step s who p))
@@ -53,10 +54,16 @@ step_core s p actor.Manager core none =
     (subst IsCore (managed_after (core_played s p) p.moves refl) (manager_core (core_played s p) core none))
 
 queue_core : (s : Setting) (p : Played) (who : Actor) (op : Op) → IsCore (core_played s p) → IsActor (core_played s p) who → IsOpOf s.sections who op → IsCore (core_played s (with_queued s who op p))
-queue_core s p (actor.Cpu cpu) op core below is =
-    let w = waiting_at p.machine cpu in
-    core_after_queue (core_played s p) cpu op core below is {X = Unit {0}} {E = Unit {0}} (Ok tt) w (with_op w op) (get_or_default p.machine.waiting cpu nothing_waits w (omega (arith, core.machine.waiting))) refl tt
-queue_core s p actor.Manager op core below is = queued_manager (core_played s p) op core is
+queue_core s p (actor.Cpu cpu) op core below is = go (cpu_op op) (core_queued (core_played s p) (actor.Cpu cpu) op core below is)
+  where
+    go : (o : Option CpuOp) → IsCore (queued_cpu (core_played s p) cpu o) → IsCore (core_of s.shape s.sections (queued_cpu (core_played s p) cpu o).machine (queued_cpu (core_played s p) cpu o).modules p.moves)
+    go None c = c
+    go (Some x) c = c
+queue_core s p actor.Manager op core below is = go (manager_op op) (core_queued (core_played s p) actor.Manager op core below is)
+  where
+    go : (o : Option ManagerOp) → IsCore (queued_manager (core_played s p) o) → IsCore (core_of s.shape s.sections (queued_manager (core_played s p) o).machine (queued_manager (core_played s p) o).modules p.moves)
+    go None c = c
+    go (Some x) c = c
 
 pub reached_core : (s : Setting) (p : Played) → IsSetting s → Reached s p → IsCore (core_played s p)
 reached_core s p is Reached.first = first_core s is

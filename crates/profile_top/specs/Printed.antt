@@ -10,10 +10,10 @@ use Rattle.tag_section.specs.Section.{Section, section_at, tag_at}
 use Rattle.module_area.specs.declared.entry.Entry.{Entry}
 use Rattle.module_area.specs.declared.entry.State.{State}
 use Rattle.module_area.specs.declared.entry.State.TheVariants.{Loaded, Dead}
-use Rattle.core_steps.specs.declared.op.Cause.{Cause}
-use Rattle.core_steps.specs.declared.op.Cause.TheVariants as cause
-use Rattle.core_steps.specs.declared.op.Event.{Event}
-use Rattle.core_steps.specs.declared.op.Event.TheVariants.{Stepped, Released, Kept}
+use Rattle.module_ops.specs.declared.event.Cause.{Cause}
+use Rattle.module_ops.specs.declared.event.Cause.TheVariants as cause
+use Rattle.module_ops.specs.declared.event.Event.{Event}
+use Rattle.module_ops.specs.declared.event.Event.TheVariants.{Stepped, Released, Kept}
 use Rattle.allocinfo.specs.declared.rows.Row.{Row}
 use Rattle.allocinfo.specs.Text.{rows_text}
 

@@ -5,12 +5,15 @@ use Rattle.tag_model.specs.Moves.{Move}
 use Rattle.tag_section.specs.Section.{Section}
 use Rattle.module_area.specs.declared.entry.Entry.{Entry}
 use Rattle.core_list.specs.ListState.{loaded_entry}
-use Rattle.core_steps.specs.declared.op.StepRefused.{StepRefused}
+use Rattle.cpu_ops.specs.declared.refused.StepRefused.{StepRefused}
 use Rattle.core_steps.specs.declared.op.Actor.{Actor}
 use Rattle.core_steps.specs.declared.op.Op.{Op}
-use Rattle.core_steps.specs.Machine.{Machine}
-use Rattle.core_steps.specs.Modules.{ModuleTable, section_len}
-use Rattle.core_steps.specs.CoreState.{CoreState, IsActor, IsOpOf, refused, stepped, event_of, queued, ops_of, fresh_machine, fresh_modules}
+use Rattle.cpu_ops.specs.Machine.{Machine}
+use Rattle.module_ops.specs.Modules.{ModuleTable}
+use Rattle.cpu_ops.specs.MayQueue.{section_len}
+use Rattle.core_steps.specs.CoreState.{CoreState, IsActor, IsOpOf, refused, stepped, event_of, queued, ops_of}
+use Rattle.cpu_ops.specs.Machine.{fresh_machine}
+use Rattle.module_ops.specs.Modules.{fresh_modules}
 use Rattle.core_steps.specs.Laws.{moves_of_actor}
 use Rattle.core_steps.specs.Moved.{core_of}
 use Rattle.core_steps.specs.StepsLeft.{steps_left}

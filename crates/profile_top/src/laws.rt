@@ -7,7 +7,7 @@ ghost use Rattle.tag_model.specs.Reference.{live_total};
 ghost use Rattle.tag_model.specs.Wrap.{wrap};
 ghost use Rattle.tag_model.specs.declared.state.Kind.{Kind};
 ghost use Rattle.core_steps.specs.declared.op.Actor.{Actor};
-ghost use Rattle.core_steps.specs.Machine.{hand_at};
+ghost use Rattle.cpu_ops.specs.Machine.{hand_at};
 ghost use Rattle.core_steps.specs.CoreState.{event_of, refused, word_state};
 ghost use Rattle.core_steps.specs.Release.{IfReleases};
 ghost use Rattle.trace.specs.declared.steps.StepLine.{StepLine};

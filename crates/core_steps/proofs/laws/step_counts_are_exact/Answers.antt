@@ -1,6 +1,6 @@
 use Rattle.core_steps.proofs.Steps.{under_way, ended, free_in}
 use Rattle.core_steps.specs.Laws.{after_steps}
-use Rattle.core_steps.specs.Modules.{scene_at}
+use Rattle.module_ops.specs.Modules.{scene_at}
 use Rattle.core_steps.proofs.laws.step_counts_are_exact.Goals as goal
 
 pub returns-clause-under_way : goal.returns-clause-under_way

@@ -1,8 +1,8 @@
 use Rattle.std.proofs.Common.{◌≡◌, length, refl, arith, subst, Option, None, Ok}
 use Rattle.std.proofs.lemmas.Option.{slice_get_past}
 use Rattle.core_steps.specs.declared.op.Actor.{Actor}
-use Rattle.core_steps.specs.declared.op.Event.{Event}
-use Rattle.core_steps.specs.declared.op.StepRefused.{StepRefused}
+use Rattle.module_ops.specs.declared.event.Event.{Event}
+use Rattle.cpu_ops.specs.declared.refused.StepRefused.{StepRefused}
 use Rattle.core_steps.specs.CoreState.{CoreState, refused, event_of}
 use Rattle.core_steps.specs.Release.{IfReleases}
 use Rattle.core_steps.proofs.Kept.{Answers, result_none}

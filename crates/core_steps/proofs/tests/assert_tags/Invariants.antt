@@ -1,5 +1,5 @@
 use Rattle.std.proofs.Common.{ℕ, ◌<◌, ◌≤◌}
-use Rattle.core_steps.specs.Modules.{section_len}
+use Rattle.cpu_ops.specs.MayQueue.{section_len}
 use Rattle.core_steps.proofs.tests.assert_tags.Given as goal
 
 -- each section so far has a tag

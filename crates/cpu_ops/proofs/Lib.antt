@@ -1,0 +1,3 @@
+pub mod LoadedEntry
+pub mod Flags
+pub mod Going

@@ -1,0 +1,4 @@
+use Rattle.cpu_ops.proofs.reserved.Reserved.new.Goals as goal
+
+pub returns : goal.returns
+returns c = c.in_ok-vec.ensures.items_if_clones_equal (λ y e. e)

@@ -1,0 +1,3 @@
+pub mod Machine
+pub mod Reserved
+pub mod MayQueue
