@@ -8,3 +8,4 @@ pub mod NewlineLemmas
 pub mod TextLemmas
 pub mod FaultLemmas
 pub mod BackLemmas
+pub mod OwnLemmas

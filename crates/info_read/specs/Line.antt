@@ -1,21 +1,13 @@
 -- How a line is read.
-use Rattle.std.specs.Prelude.{ℕ, ◌≡◌, ◌&&◌, List, Option, Some, None, Result, Ok, Err, ⊤, if◌then◌else◌}
+use Rattle.std.specs.Prelude.{ℕ, ◌&&◌, List, Option, Some, None, if◌then◌else◌}
 use Rattle.allocinfo.specs.declared.print.TheConstants.{BYTES_PLACES, CALLS_PLACES}
 use Rattle.codetag.specs.Names.{is_file, is_function}
 use Rattle.codetag.specs.TagParts.{TagParts}
 use Rattle.tag_section.specs.ModuleName.{is_module_name}
-use Rattle.info_read.specs.declared.line.LineError.{LineError}
-use Rattle.info_read.specs.declared.line.LineError.TheVariants.{Refused, Memory}
 use Rattle.info_read.specs.declared.row.InfoRow.{InfoRow}
 use Rattle.info_read.specs.Cuts.{◌>>=◌, unpadded}
 use Rattle.info_read.specs.Numbers.{signed_of, unsigned_of}
 use Rattle.info_read.specs.Place.{Place, place_of}
-
--- What a call returned is what reading gives, unless memory ran out.
-abbrev pub Gives : {X : Type 0} → Result X LineError → Option X → Type 0
-Gives (Ok x) read = read ≡ Some x
-Gives (Err Refused) read = read ≡ None
-Gives (Err (Memory want)) read = ⊤
 
 -- the numbers of a line, and its tag
 unfoldable pub parts_of : List ℕ → Option (ℕ × ℕ × Place)

@@ -1,16 +1,16 @@
 -- How a text is read: the header's lines, and then each line for itself.
-use Rattle.std.specs.Prelude.{ℕ, ◌≡◌, ◌+◌, ◌==◌, List, [], ◌∷◌, ◌++◌, Option, Some, None, Result, Ok, Err, Vec, ⊤, length, if◌then◌else◌}
+use Rattle.std.specs.Prelude.{ℕ, ◌≡◌, ◌+◌, ◌==◌, List, [], ◌∷◌, ◌++◌, Option, Some, None, Result, Ok, Err, Vec, ⊤, length, map, if◌then◌else◌}
 use Rattle.std.specs.Option.{ok_or}
 use Rattle.std.specs.Str.{bytes_eq}
 use Rattle.std.specs.declared.alloc.Global.{Global}
 use Rattle.text_form.specs.Lines.{lines_of, tail_of}
 use Rattle.info_read.specs.declared.error.InfoError.{InfoError}
 use Rattle.info_read.specs.declared.error.InfoError.TheVariants.{Refused, Memory}
-use Rattle.info_read.specs.declared.line.LineError.{LineError}
-use Rattle.info_read.specs.declared.line.LineError.TheVariants as line
 use Rattle.info_read.specs.declared.row.InfoRow.{InfoRow}
+use Rattle.info_read.specs.declared.row.RowText.{RowText}
 use Rattle.info_read.specs.Grammar.{title_line, columns_line}
 use Rattle.info_read.specs.Line.{row_of}
+use Rattle.info_read.specs.Views.{row_view}
 
 infixl 10 ◌>>=◌
 abbrev pub ◌>>=◌ : {A B E : Type 0} → Result A E → (A → Result B E) → Result B E
@@ -23,10 +23,11 @@ Reads (Ok found) read = read ≡ Ok found.items
 Reads (Err (Refused line)) read = read ≡ Err line
 Reads (Err (Memory want)) read = ⊤
 
--- an error of a line, with the line's number
-abbrev pub error_at : ℕ → LineError → InfoError
-error_at number line.Refused = Refused number
-error_at number (line.Memory want) = Memory want
+-- The same of rows that are parts of the text.
+abbrev pub ReadsText : Result (Vec RowText Global) InfoError → Result (List InfoRow) ℕ → Type 0
+ReadsText (Ok found) read = read ≡ Ok (map row_view found.items)
+ReadsText (Err (Refused line)) read = read ≡ Err line
+ReadsText (Err (Memory want)) read = ⊤
 
 -- the lines behind the first one, where that is the line
 abbrev pub behind : List ℕ → List (List ℕ) → Option (List (List ℕ))

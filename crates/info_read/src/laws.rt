@@ -1,11 +1,12 @@
 //! What holds of reading and printing together.
 
-ghost use Rattle.std.specs.Prelude.{◌≡◌, ◌≤◌, List, ℕ, All, length, IfOk, IfErr};
+ghost use Rattle.std.specs.Prelude.{◌≡◌, ◌≤◌, List, ℕ, All, length, Ok, IfOk, IfErr};
 ghost use Rattle.tag_section.specs.Section.{Section};
 ghost use Rattle.allocinfo.specs.Text.{AreRows, IsRow, rows_text};
 ghost use Rattle.allocinfo.specs.declared.rows.Row.{Row};
 ghost use Rattle.info_read.specs.declared.row.InfoRow.{InfoRow};
 ghost use Rattle.info_read.specs.Grammar.{IsInfoRow, IsLineOf, Spells};
+ghost use Rattle.info_read.specs.Reading.{rows_of};
 ghost use Rattle.info_read.specs.ReadBack.{info_row, info_rows, AreInfoRows, IsMemory};
 
 use crate::error::InfoError;
@@ -24,6 +25,12 @@ pub fn line_is_of_one_row()
 pub fn printed_rows_are_spelled()
     ensures { (sections : List Section) (rows : List Row) → AreRows sections rows → AreInfoRows sections rows
         → Spells (rows_text sections rows) (info_rows sections rows) }
+{}
+
+/// What is printed of rows is read as these rows.
+pub fn printed_rows_are_read()
+    ensures { (sections : List Section) (rows : List Row) → AreRows sections rows → AreInfoRows sections rows
+        → rows_of (rows_text sections rows) ≡ Ok (info_rows sections rows) }
 {}
 
 // A row's numbers fit, and its names are of their forms.

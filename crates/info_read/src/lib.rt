@@ -11,9 +11,11 @@ mod reading;
 mod row;
 
 pub use error::InfoError;
-pub use laws::{line_is_of_one_row, printed_and_read, printed_rows_are_spelled};
-pub use reading::read_info;
-pub use row::InfoRow;
+pub use laws::{
+    line_is_of_one_row, printed_and_read, printed_rows_are_read, printed_rows_are_spelled,
+};
+pub use reading::{read_info, read_rows};
+pub use row::{InfoRow, RowText, owned_row};
 
 #[cfg(test)]
 mod tests;

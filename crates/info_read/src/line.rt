@@ -1,37 +1,18 @@
 //! How a line is read.
 
-ghost use Rattle.std.specs.Prelude.{◌≡◌, ◌≤◌, MatchOption, IfSome};
+ghost use Rattle.std.specs.Prelude.{◌≡◌, ◌≤◌, ◌&&◌, MatchOption, IfSome};
 ghost use Rattle.std.specs.Option.{option_copied};
-ghost use Rattle.allocinfo.specs.Text.{right};
-ghost use Rattle.info_read.specs.Line.{Gives, parts_of, formed_tag, formed_name, formed_row, row_of};
-ghost use Rattle.info_read.specs.Views.{place_view};
+ghost use Rattle.codetag.specs.Names.{is_file, is_function};
+ghost use Rattle.info_read.specs.Line.{parts_of, formed_name, formed_row, row_of};
+ghost use Rattle.info_read.specs.Views.{place_view, row_view};
 
 use crate::cuts::unpadded;
 use crate::numbers::{signed_of, unsigned_of};
 use crate::place::{PlaceParts, place_of};
-use crate::row::InfoRow;
+use crate::row::RowText;
 use allocinfo::print::{BYTES_PLACES, CALLS_PLACES};
-use codetag::{CodeTag, TagError, TagText};
-use std::alloc::{AllocError, Global};
+use codetag::{is_file, is_function};
 use tag_section::is_module_name;
-
-/// Why a line gave no row.
-#[derive(Debug, Drop)]
-pub(crate) enum LineError {
-    Refused,
-    Memory(AllocError),
-}
-
-impl From<AllocError> for LineError {
-    ghost use Rattle.std.specs.Prelude.{◌≡◌};
-    ghost use Rattle.info_read.specs.declared.line.LineError.TheVariants.{Memory};
-
-    ghost from_gives = { λ cause error. error ≡ Memory cause };
-
-    fn from(cause: AllocError) -> LineError {
-        LineError::Memory(cause)
-    }
-}
 
 /// The parts of a line.
 #[derive(Clone, Copy, Debug)]
@@ -59,65 +40,53 @@ fn parts_of(line: &[u8]) -> Option<LineParts<'_>>
     })
 }
 
-// The tag, where its names are of their forms.
-#[tactic(auto, unfolding(crate::specs::Line::formed_tag))]
-fn formed_tag(alloc: Global, file: &[u8], line: u64, function: &[u8]) -> Result<CodeTag, LineError>
-    requires { (1 ≤ line) × (line ≤ 4294967295) }
-    ensures { Gives result
-        (formed_tag (record { file = file.now; line = line; function = function.now })) }
+// Whether the names of a tag are of their forms.
+fn are_names(file: &[u8], function: &[u8]) -> bool
+    ensures { result ≡ (is_file file.now && is_function function.now) }
 {
-    match CodeTag::new(alloc, file, line, function) {
-        Ok(tag) => Ok(tag),
-        Err(TagError::BadFile) => Err(LineError::Refused),
-        Err(TagError::BadLine) => unreachable!(),
-        Err(TagError::BadFunction) => Err(LineError::Refused),
-        Err(TagError::Memory(error)) => Err(LineError::Memory(error)),
-    }
+    is_file(file) && is_function(function)
 }
 
 // The module, where its name is of its form.
 #[tactic(auto, unfolding(crate::specs::Line::formed_name))]
-fn formed_name(alloc: Global, name: Option<&[u8]>) -> Result<Option<TagText>, LineError>
-    ensures { Gives result (formed_name (option_copied name.entry)) }
+fn formed_name(name: Option<&[u8]>) -> Option<Option<&[u8]>>
+    ensures { MatchOption result (formed_name (option_copied name.entry) ≡ None)
+        (λ formed. formed_name (option_copied name.entry) ≡ Some (option_copied formed)) }
 {
     match name {
-        None => Ok(None),
-        Some(name) => {
-            if !is_module_name(name) {
-                return Err(LineError::Refused);
-            }
-            let bytes = Vec::from_slice(alloc, name)?;
-            Ok(Some(TagText::of(bytes)))
-        }
+        None => Some(None),
+        Some(word) => { if is_module_name(word) { Some(Some(word)) } else { None } }
     }
 }
 
 // The row, where its names are of their forms.
-#[tactic(auto, unfolding(crate::specs::Line::formed_row))]
-fn formed_row(alloc: Global, parts: LineParts<'_>) -> Result<InfoRow, LineError>
+#[tactic(auto, unfolding(crate::specs::Line::formed_row, crate::specs::Line::formed_tag))]
+fn formed_row(parts: LineParts<'_>) -> Option<RowText<'_>>
     requires { (1 ≤ parts.place.line) × (parts.place.line ≤ 4294967295) }
-    ensures { Gives result
-        (formed_row parts.entry.bytes parts.entry.calls (place_view parts.entry.place)) }
+    ensures { MatchOption result (formed_row parts.entry.bytes parts.entry.calls (place_view parts.entry.place) ≡ None)
+        (λ row. formed_row parts.entry.bytes parts.entry.calls (place_view parts.entry.place) ≡ Some (row_view row)) }
 {
     let place = parts.place;
-    let tag = formed_tag(alloc, place.file, place.line, place.function)?;
-    let name = formed_name(alloc, place.name)?;
-    Ok(InfoRow {
+    if !are_names(place.file, place.function) {
+        return None;
+    }
+    let module = formed_name(place.name)?;
+    Some(RowText {
         bytes: parts.bytes,
         calls: parts.calls,
-        module: name,
+        module,
         kept: place.kept,
-        tag,
+        file: place.file,
+        line: place.line as u32,
+        function: place.function,
     })
 }
 
 /// The row of a line.
 #[tactic(auto, unfolding(crate::specs::Line::row_of))]
-pub(crate) fn row_of(alloc: Global, line: &[u8]) -> Result<InfoRow, LineError>
-    ensures { Gives result (row_of line.now) }
+pub(crate) fn row_of(line: &[u8]) -> Option<RowText<'_>>
+    ensures { MatchOption result (row_of line.now ≡ None) (λ row. row_of line.now ≡ Some (row_view row)) }
 {
-    match parts_of(line) {
-        None => Err(LineError::Refused),
-        Some(parts) => formed_row(alloc, parts),
-    }
+    let parts = parts_of(line)?;
+    formed_row(parts)
 }

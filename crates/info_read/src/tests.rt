@@ -1,5 +1,7 @@
-use crate::{InfoError, InfoRow, printed_and_read, read_info};
-use allocinfo::Row;
+ghost use Rattle.std.specs.Prelude.{◌≡◌};
+
+use crate::{InfoError, InfoRow, printed_and_read, read_info, read_rows};
+use allocinfo::{Row, print_rows};
 use codetag::{CodeTag, TagText};
 use std::alloc::Global;
 use std::process::Abort;
@@ -34,6 +36,10 @@ fn reads_rows(rt: HostRuntime) -> Result<(), Fail> {
     assert_eq!(rt; rows[3].bytes, 18_446_744_073_709_551_584);
     assert_eq!(rt; rows[3].calls, u64::MAX);
     assert!(rt; name(&rows[3]) == Some(b"ext4".as_slice()) && !rows[3].kept);
+    let parts = read_rows(rt.alloc(), text)?;
+    crosses(&parts);
+    assert_eq!(rt; parts.len(), 6);
+    assert_eq!(rt; (parts[4].file, parts[4].line, parts[4].kept), (b"fs/ext4/a.c".as_slice(), 11, true));
     assert_eq!(rt; rows[4].bytes, 9_223_372_036_854_775_808);
     assert!(rt; name(&rows[4]) == Some(b"ext4".as_slice()) && rows[4].kept);
     assert_eq!(rt; rows[5].tag.function(), b"fa".as_slice());
@@ -91,6 +97,49 @@ fn refuses_rows_that_no_printer_writes(rt: HostRuntime) -> Result<(), Fail> {
             read(&rt, rt.alloc(), &text).err(),
             Some(InfoError::Refused { line: 3 })
         );
+    }
+    Ok(())
+}
+
+fn row(calls: u64, section: u32, kept: bool) -> Row
+    ensures { result ≡ record { bytes = 64; calls = calls; section = section; index = 0; kept = kept } }
+{
+    Row {
+        bytes: 64,
+        calls,
+        section,
+        index: 0,
+        kept,
+    }
+}
+
+#[test]
+fn reads_back_what_is_printed(rt: HostRuntime) -> Result<(), Fail> {
+    let alloc = rt.alloc();
+    let mut sections = Sections::new(alloc);
+    let _kernel = sections.begin(b"kernel")?;
+    sections.add_line(CodeTag::new(alloc, b"mm/a.c", 10, b"fa")?)?;
+    let _module = sections.begin(b"ext4")?;
+    sections.add_line(CodeTag::new(alloc, b"fs/ext4/a.c", 11, b"ext4_a")?)?;
+    assert!(rt; sections.count() == 2);
+    assert!(rt; sections.len_of(0) == 1);
+    assert!(rt; sections.len_of(1) == 1);
+    let rows = [row(7, 0, false), row(0, 1, false), row(1, 1, true)];
+    // What is printed isn't too long to be read.
+    let mut text = Vec::new(alloc);
+    print_rows(&sections, &rows, &mut text)?;
+    assert!(rt; text.len() <= 4_194_304);
+    let read = printed_and_read(alloc, &sections, &rows)?;
+    assert_eq!(rt; read.len(), 3);
+    for (place, calls, line, module) in [
+        (0, 7, 10, None),
+        (1, 0, 11, Some(b"ext4".as_slice())),
+        (2, 1, 11, Some(b"ext4".as_slice())),
+    ] {
+        assert!(rt; place < read.len());
+        let row = &read[place];
+        assert_eq!(rt; (row.calls, row.tag.line(), row.kept), (calls, line, place == 2));
+        assert!(rt; name(row) == module);
     }
     Ok(())
 }

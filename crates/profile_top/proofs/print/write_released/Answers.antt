@@ -1,7 +1,0 @@
-use Rattle.std.proofs.Common.{rules, append_assoc}
-use Rattle.profile_top.specs.Printed.{released_text}
-use Rattle.profile_top.proofs.print.write_released.Goals as goal
-
-pub returns : goal.returns
-unfolding released_text
-returns c = search (rules, append_assoc)

@@ -1,0 +1,5 @@
+pub mod Stepping
+pub mod Totals
+pub mod Lines
+pub mod Numbers
+pub mod ReachedLemmas

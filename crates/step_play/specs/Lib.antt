@@ -1,0 +1,5 @@
+pub mod Acts
+pub mod Printed
+pub mod Schedule
+pub mod Playing
+pub mod Reached
