@@ -1,8 +1,10 @@
 -- The sums of rows with the same key, with one more row.
-use Rattle.std.proofs.Common.{◌≡◌, ℕ, ◌+◌, ◌<◌, Bool, true, false, cond, ◌||◌, List, [], ◌∷◌, ◌++◌, map, length, take, get_or, refl, sym, ap, ◌∙◌, arith, Some, None, Vec, Global, ⊎_elim}
+use Rattle.std.proofs.Common.{◌≡◌, ℕ, ◌+◌, ◌<◌, Bool, true, false, cond, ◌||◌, List, [], ◌∷◌, ◌++◌, map, length, take, get_or, refl, sym, ap, ◌∙◌, subst, arith, ◌^◌, Some, None, Vec, Global, ⊎_elim}
 use Rattle.std.specs.BTreeMap.{insert_entry, is_at}
-use Rattle.std.specs.Map.{lookup}
-use Rattle.std.specs.Ordering.{eq_by_cmp, match_ordering}
+use Rattle.std.specs.Map.{lookup, keys_of, set_value}
+use Rattle.std.specs.List.{AllByRecursion}
+use Rattle.std.specs.List.Sorted.{IsStrictlySortedBy}
+use Rattle.std.specs.Ordering.{eq_by_cmp, is_eq, match_ordering}
 use Rattle.std.specs.declared.cmp.Ordering.TheVariants.{Less, Equal, Greater}
 use Rattle.std.specs.Cmp.Lexicographic.{nat_list_cmp_total, nat_list_eq_equiv}
 use Rattle.std.specs.FinMap.{find, put}
@@ -21,9 +23,11 @@ use Rattle.std.proofs.lemmas.Simd.{map-map}
 use Rattle.tag_model.specs.Wrap.{wrap}
 use Rattle.tag_section.proofs.NumberLemmas.{name_cmp}
 use Rattle.info_read.specs.declared.row.InfoRow.{InfoRow}
+use Rattle.info_read.specs.declared.row.RowText.{RowText}
+use Rattle.info_read.specs.Views.{row_view}
 use Rattle.info_group.specs.declared.tally.Sums.{Sums}
 use Rattle.info_group.specs.Grouping.{byte_order, groups_of, names_of, rows_with}
-use Rattle.info_group.specs.Tally.{group_from, no_sums, with_row, sums_of, tallies}
+use Rattle.info_group.specs.Tally.{group_from, grown, no_sums, with_row, sums_of, tallies}
 use Rattle.info_group.proofs.NameLemmas.{find-names_of, names_rise, one_name, same_name}
 
 or_always : (a : Bool) → (a || true) ≡ true
@@ -52,14 +56,60 @@ pub named-lookup : (entries : List (Vec ℕ Global × Sums)) (key : Vec ℕ Glob
 named-lookup [] key = refl
 named-lookup (e ∷ es) key = ap (λ r. cond (eq_by_cmp byte_order key.items e.0.items) (Some e.1) r) (named-lookup es key)
 
--- a map in which the sums of a row's key were raised
-pub raised : (old new : List (Vec ℕ Global × Sums)) (key : Vec ℕ Global) (row : InfoRow) (before after : Sums)
-    → before ≡ unwrap_or (lookup (is_at (name_cmp key)) old) no_sums → after ≡ with_row before row → new ≡ insert_entry name_cmp old key after
-    → map named new ≡ put byte_order key.items (with_row (unwrap_or (find byte_order key.items (map named old)) no_sums) row) (map named old)
-raised old new key row before after read added written =
-    let sums : after ≡ with_row (unwrap_or (find byte_order key.items (map named old)) no_sums) row =
-    added ∙ ap (λ s. with_row s row) (read ∙ ap (λ o. unwrap_or o no_sums) (named-lookup old key)) in
-    ap (map named) written ∙ (named-insert_entry old key after ∙ ap (λ s. put byte_order key.items s (map named old)) sums)
+-- the test of a name at the keys of a map
+abbrev pub at_name : List ℕ → Vec ℕ Global → Bool
+at_name name = is_at (λ key. byte_order name key.items)
+
+pub named-find : (entries : List (Vec ℕ Global × Sums)) (name : List ℕ) → lookup (at_name name) entries ≡ find byte_order name (map named entries)
+named-find [] name = refl
+named-find (e ∷ es) name = ap (λ r. cond (eq_by_cmp byte_order name e.0.items) (Some e.1) r) (named-find es name)
+
+-- a name below all keys isn't among them
+absent : (name : List ℕ) (first : Vec ℕ Global) (entries : List (Vec ℕ Global × Sums)) (v : Sums) → byte_order name first.items ≡ Less
+    → AllByRecursion (λ key. name_cmp first key ≡ Less) (keys_of entries) → lookup (at_name name) entries ≡ Some v → ⊥
+absent name first [] v below above found = cc
+absent name first (e ∷ es) v below above found =
+    let less : byte_order name e.0.items ≡ Less = nat_list_cmp_total.trans name first.items e.0.items below above.0 in
+    absent name first es v below above.1 (subst (λ o. cond (is_eq o) (Some e.1) (lookup (at_name name) es) ≡ Some v) less found)
+
+-- a value that is written at a name that stands there
+pub written_at : (entries : List (Vec ℕ Global × Sums)) (name : List ℕ) (v w : Sums) → IsStrictlySortedBy name_cmp (keys_of entries) → lookup (at_name name) entries ≡ Some v
+    → map named (set_value (at_name name) entries w) ≡ put byte_order name w (map named entries)
+unfolding IsStrictlySortedBy
+written_at [] name v w rises found = cc
+written_at (e ∷ es) name v w rises found =
+    elim (byte_order name e.0.items) as (λ o. byte_order name e.0.items ≡ o → cond (is_eq o) (Some e.1) (lookup (at_name name) es) ≡ Some v
+    → map named (cond (is_eq o) ((e.0, w) ∷ es) (e ∷ set_value (at_name name) es w))
+    ≡ by_order o ((name, w) ∷ named e ∷ map named es) ((e.0.items, w) ∷ map named es) (named e ∷ put byte_order name w (map named es))) [
+      | Less ↦ λ below later. absurd (absent name e.0 es v below rises.0 later)
+      | Equal ↦ λ _ _. refl
+      | Greater ↦ λ _ later. ap (λ t. named e ∷ t) (written_at es name v w rises.1 later)
+    ] refl found
+
+-- a map in which the sums of a name were raised
+pub raised : (old new : List (Vec ℕ Global × Sums)) (name : List ℕ) (row : InfoRow) (before : Sums) → IsStrictlySortedBy name_cmp (keys_of old)
+    → lookup (at_name name) old ≡ Some before → new ≡ set_value (at_name name) old (with_row before row) → map named new ≡ grown name row (map named old)
+raised old new name row before rises found written =
+    let there : find byte_order name (map named old) ≡ Some before = sym (named-find old name) ∙ found in
+    ap (map named) written ∙ (written_at old name before (with_row before row) rises found
+    ∙ ap (λ o. put byte_order name (with_row (unwrap_or o no_sums) row) (map named old)) (sym there))
+
+-- a map with a name that it didn't have
+pub begun : (old new : List (Vec ℕ Global × Sums)) (key : Vec ℕ Global) (row : InfoRow) (sums : Sums) → find byte_order key.items (map named old) ≡ None
+    → sums ≡ with_row no_sums row → new ≡ insert_entry name_cmp old key sums → map named new ≡ grown key.items row (map named old)
+begun old new key row sums none is written =
+    ap (map named) written ∙ (named-insert_entry old key sums ∙ ap (λ s. put byte_order key.items s (map named old)) is
+    ∙ ap (λ o. put byte_order key.items (with_row (unwrap_or o no_sums) row) (map named old)) (sym none))
+
+abbrev sums_with : ℕ → ℕ → Sums
+sums_with bytes calls = record { bytes = bytes; calls = calls }
+
+-- the sums of one row alone
+pub first_sums : (row : InfoRow) → row.bytes < 2 ^ 64 → row.calls < 2 ^ 64 → record { bytes = row.bytes; calls = row.calls } ≡ with_row no_sums row
+first_sums row bytes calls =
+    let one : row.bytes ≡ wrap (0 + row.bytes) = omega arith in
+    let other : row.calls ≡ wrap (0 + row.calls) = omega arith in
+    ap (λ (n : ℕ). sums_with n row.calls) one ∙ ap (sums_with (wrap (0 + row.bytes))) other
 
 -- ---- one more row
 
@@ -154,18 +204,19 @@ module _ (key : InfoRow → List ℕ) where
       (find-grown rows row sums is)
 
   -- the sums after the row at a place was added to those of the rows before it
-  pub tallies_more : (rows : List InfoRow) (i : ℕ) (row : InfoRow) (name : List ℕ) (old new : List (List ℕ × Sums))
-      → i < length rows → row ≡ get_or rows i row → name ≡ key row → old ≡ tallies key (take i rows)
-      → new ≡ put byte_order name (with_row (unwrap_or (find byte_order name old) no_sums) row) old
-      → new ≡ tallies key (take (i + 1) rows)
-  tallies_more rows i row name old new below at of so_far added =
-      let before = take i rows in
-      let itself : bytes_eq (key row) (key row) ≡ true = nat_list_eq_equiv.refl (key row) in
-      let grown : with_row (unwrap_or (find byte_order (key row) (tallies key before)) no_sums) row ≡ sums_of (rows_with key (key row) (before ++ row ∷ [])) =
-      ap (λ s. with_row s row) (old_sums before (key row)) ∙ sym (grown_same (key row) before row itself) in
-      let next : before ++ row ∷ [] ≡ take (i + 1) rows = ap (λ r. before ++ r ∷ []) at ∙ sym (take_more rows i row below) in
-      added ∙ ((λ j. put byte_order (of j) (with_row (unwrap_or (find byte_order (of j) (so_far j)) no_sums) row) (so_far j))
-      ∙ (tallies-push before row _ grown ∙ ap (tallies key) next))
+  pub tallies_more : (rows : List RowText) (i : ℕ) (row d : RowText) (old new : List (List ℕ × Sums))
+      → i < length rows → row ≡ get_or rows i d → old ≡ tallies key (map row_view (take i rows))
+      → new ≡ grown (key (row_view row)) (row_view row) old
+      → new ≡ tallies key (map row_view (take (i + 1) rows))
+  tallies_more rows i row d old new below at so_far added =
+      let before = map row_view (take i rows) in
+      let last = row_view row in
+      let itself : bytes_eq (key last) (key last) ≡ true = nat_list_eq_equiv.refl (key last) in
+      let sums : with_row (unwrap_or (find byte_order (key last) (tallies key before)) no_sums) last ≡ sums_of (rows_with key (key last) (before ++ last ∷ [])) =
+      ap (λ s. with_row s last) (old_sums before (key last)) ∙ sym (grown_same (key last) before last itself) in
+      let next : before ++ last ∷ [] ≡ map row_view (take (i + 1) rows) =
+      sym (map-append row_view (take i rows) (row ∷ [])) ∙ ap (map row_view) (ap (λ r. take i rows ++ r ∷ []) at ∙ sym (take_more rows i d below)) in
+      added ∙ (ap (grown (key last) last) so_far ∙ (tallies-push before last _ sums ∙ ap (tallies key) next))
 
   -- the groups of the sums
   pub groups_from_tallies : (rows : List InfoRow) → map group_from (tallies key rows) ≡ groups_of key rows

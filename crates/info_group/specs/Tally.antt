@@ -6,7 +6,9 @@ use Rattle.tag_model.specs.Wrap.{wrap}
 use Rattle.info_read.specs.declared.row.InfoRow.{InfoRow}
 use Rattle.info_group.specs.declared.group.Group.{Group}
 use Rattle.info_group.specs.declared.tally.Sums.{Sums}
-use Rattle.info_group.specs.Grouping.{bytes_of, calls_of, rows_with, names_of}
+use Rattle.std.specs.FinMap.{find, put}
+use Rattle.std.specs.Option.{unwrap_or}
+use Rattle.info_group.specs.Grouping.{byte_order, bytes_of, calls_of, rows_with, names_of}
 
 -- the sums of no rows
 abbrev pub no_sums : Sums
@@ -15,6 +17,10 @@ no_sums = record { bytes = 0; calls = 0 }
 -- the sums with a row's bytes and calls
 abbrev pub with_row : Sums → InfoRow → Sums
 with_row sums row = record { bytes = wrap (sums.bytes + row.bytes); calls = wrap (sums.calls + row.calls) }
+
+-- the sums of each name after a row was added to those of one
+abbrev pub grown : List ℕ → InfoRow → List (List ℕ × Sums) → List (List ℕ × Sums)
+grown name row sums = put byte_order name (with_row (unwrap_or (find byte_order name sums) no_sums) row) sums
 
 -- the sums of rows
 abbrev pub sums_of : List InfoRow → Sums

@@ -1,6 +1,7 @@
 //! Groups of rows.
 
 ghost use Rattle.std.specs.Prelude.{◌≡◌, map, IfOk};
+ghost use Rattle.info_read.specs.Views.{row_view};
 ghost use Rattle.info_group.specs.Keys.{file_key, key_of, module_key};
 ghost use Rattle.info_group.specs.Grouping.{groups_of};
 ghost use Rattle.info_group.specs.Tally.{by_name, group_from};
@@ -8,7 +9,7 @@ ghost use Rattle.info_group.specs.Tally.{by_name, group_from};
 use crate::key::Key;
 use crate::tally::{Sums, tally};
 use codetag::TagText;
-use info_read::InfoRow;
+use info_read::{InfoRow, RowText, row_text};
 use std::alloc::{AllocError, Global};
 use std::collections::BTreeMap;
 
@@ -18,6 +19,14 @@ pub struct Group {
     pub name: TagText,
     pub bytes: u64,
     pub calls: u64,
+}
+
+/// A group for each key that some row has, of rows that are parts of a text.
+#[tactic(auto, using(crate::proofs::TallyLemmas::groups_from_tallies))]
+pub fn group_rows(alloc: Global, rows: &[RowText<'_>], key: Key) -> Result<Vec<Group>, AllocError>
+    ensures { IfOk result (λ groups. groups.items ≡ groups_of (key_of key) (map row_view rows.now)) }
+{
+    listed(alloc, tally(alloc, rows, key)?)
 }
 
 /// A group for each file.
@@ -34,11 +43,22 @@ pub fn by_module(alloc: Global, rows: &[InfoRow]) -> Result<Vec<Group>, AllocErr
     grouped(alloc, rows, Key::Module)
 }
 
-#[tactic(auto, using(crate::proofs::TallyLemmas::groups_from_tallies))]
 fn grouped(alloc: Global, rows: &[InfoRow], key: Key) -> Result<Vec<Group>, AllocError>
     ensures { IfOk result (λ groups. groups.items ≡ groups_of (key_of key) rows.now) }
 {
-    listed(alloc, tally(alloc, rows, key)?)
+    let texts = texts_of(alloc, rows)?;
+    group_rows(alloc, &texts, key)
+}
+
+// The rows as parts of themselves.
+fn texts_of(alloc: Global, rows: &[InfoRow]) -> Result<Vec<RowText<'_>>, AllocError>
+    ensures { IfOk result (λ texts. map row_view texts.items ≡ rows.now) }
+{
+    let mut texts = Vec::new(alloc);
+    for row in rows {
+        texts.push(row_text(row))?;
+    }
+    Ok(texts)
 }
 
 // The groups in the order of the names.

@@ -1,14 +1,14 @@
 //! The sums of rows with the same key.
 
-ghost use Rattle.std.specs.Prelude.{◌≡◌, IfOk, OnOk};
-ghost use Rattle.std.specs.Option.{unwrap_or};
-ghost use Rattle.std.specs.FinMap.{find, put};
+ghost use Rattle.std.specs.Prelude.{◌≡◌, false, map, None, IsTrue, IfOk, OnOk};
+ghost use Rattle.std.specs.FinMap.{find};
+ghost use Rattle.info_read.specs.Views.{row_view};
 ghost use Rattle.info_group.specs.Keys.{key_of};
 ghost use Rattle.info_group.specs.Grouping.{byte_order};
-ghost use Rattle.info_group.specs.Tally.{by_name, no_sums, tallies, with_row};
+ghost use Rattle.info_group.specs.Tally.{by_name, grown, tallies};
 
-use crate::key::Key;
-use info_read::InfoRow;
+use crate::key::{Key, add_by_key};
+use info_read::RowText;
 use std::alloc::{AllocError, Global};
 use std::collections::BTreeMap;
 
@@ -19,33 +19,55 @@ pub(crate) struct Sums {
     pub(crate) calls: u64,
 }
 
-// Adds a row to the sums of its key.
-fn add_row(
-    sums: &mut BTreeMap<Vec<u8>, Sums>,
-    name: Vec<u8>,
-    row: &InfoRow,
-) -> Result<(), AllocError>
-    ensures { OnOk result (by_name sums.new
-        ≡ put byte_order name.items (with_row (unwrap_or (find byte_order name.items (by_name sums.old)) no_sums) row.now) (by_name sums.old)) }
+// Adds a row to the sums of a name, where the name has some.
+fn raise(sums: &mut BTreeMap<Vec<u8>, Sums>, name: &[u8], row: RowText<'_>) -> bool
+    ensures raised { IsTrue result → by_name sums.new ≡ grown name.now (row_view row.entry) (by_name sums.old) }
+    ensures none { result ≡ false → (find byte_order name.now (by_name sums.old) ≡ None) × (by_name sums.new ≡ by_name sums.old) }
 {
-    let sum = sums.entry(name)?.or_insert(Sums { bytes: 0, calls: 0 });
-    sum.bytes = sum.bytes.wrapping_add(row.bytes);
-    sum.calls = sum.calls.wrapping_add(row.calls);
+    match sums.get_mut(name) {
+        Some(sum) => {
+            sum.bytes = sum.bytes.wrapping_add(row.bytes);
+            sum.calls = sum.calls.wrapping_add(row.calls);
+            true
+        }
+        None => false,
+    }
+}
+
+/// Adds a row to the sums of a name. The name is copied where it is new.
+pub(crate) fn add_row(
+    alloc: Global,
+    sums: &mut BTreeMap<Vec<u8>, Sums>,
+    name: &[u8],
+    row: RowText<'_>,
+) -> Result<(), AllocError>
+    ensures { OnOk result (by_name sums.new ≡ grown name.now (row_view row.entry) (by_name sums.old)) }
+{
+    if raise(sums, name, row) {
+        return Ok(());
+    }
+    let key = Vec::from_slice(alloc, name)?;
+    sums.insert(
+        key,
+        Sums {
+            bytes: row.bytes,
+            calls: row.calls,
+        },
+    )?;
     Ok(())
 }
 
 /// The sums of each key that some row has.
 pub(crate) fn tally(
     alloc: Global,
-    rows: &[InfoRow],
+    rows: &[RowText<'_>],
     key: Key,
 ) -> Result<BTreeMap<Vec<u8>, Sums>, AllocError>
-    ensures { IfOk result (λ sums. by_name sums ≡ tallies (key_of key) rows.now) }
+    ensures { IfOk result (λ sums. by_name sums ≡ tallies (key_of key) (map row_view rows.now)) }
 {
     let mut sums = BTreeMap::new(alloc);
     for row in rows {
-        let name = key.of(alloc, row)?;
-        add_row(&mut sums, name, row)?;
+        add_by_key(alloc, &mut sums, key, *row)?;
     }
     Ok(sums)
 }

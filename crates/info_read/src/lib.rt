@@ -15,7 +15,7 @@ pub use laws::{
     line_is_of_one_row, printed_and_read, printed_rows_are_read, printed_rows_are_spelled,
 };
 pub use reading::{read_info, read_rows};
-pub use row::{InfoRow, RowText, owned_row};
+pub use row::{InfoRow, RowText, owned_row, row_text};
 
 #[cfg(test)]
 mod tests;

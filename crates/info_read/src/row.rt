@@ -69,3 +69,28 @@ pub fn owned_row(alloc: Global, row: RowText<'_>) -> Result<InfoRow, AllocError>
         tag,
     })
 }
+
+// The name, lent.
+fn lent_name(name: &Option<TagText>) -> Option<&[u8]>
+    ensures { option_copied result ≡ name.now }
+{
+    match name {
+        None => None,
+        Some(name) => Some(name.bytes()),
+    }
+}
+
+/// The row as a part of itself.
+pub fn row_text(row: &InfoRow) -> RowText<'_>
+    ensures { row_view result ≡ row.now }
+{
+    RowText {
+        bytes: row.bytes,
+        calls: row.calls,
+        module: lent_name(&row.module),
+        kept: row.kept,
+        file: row.tag.file(),
+        line: row.tag.line(),
+        function: row.tag.function(),
+    }
+}

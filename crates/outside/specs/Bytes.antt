@@ -21,6 +21,12 @@ pub record Took (limit : ℕ) (error : ReadError) (old new : Option (List ℕ)) 
   pub taken : Consumes old new bytes
   pub amount : IsAmount limit error (length bytes)
 
+-- at most so many bytes were taken, which stay taken
+pub record TookWithin (limit : ℕ) (old new : Option (List ℕ)) : Type 0 where
+  pub bytes : List ℕ
+  pub taken : Consumes old new bytes
+  pub within : length bytes ≤ limit
+
 -- a prefix of the bytes went out
 pub record AppendsPrefix (old new : Option (List ℕ)) (bytes : List ℕ) : Type 0 where
   pub count : ℕ

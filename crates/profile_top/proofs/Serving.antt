@@ -4,7 +4,7 @@ use Rattle.std.specs.Io.KnownBytes.{Consumes, Appends, IsAtEnd}
 use Rattle.profile_top.specs.declared.answer.Answer.{Answer}
 use Rattle.outside.specs.Bytes.{Took}
 use Rattle.outside.specs.declared.faults.ReadError.TheVariants.{TooLong}
-use Rattle.profile_top.specs.declared.answer.Mode.{Mode}
+use Rattle.profile_top.specs.declared.mode.Mode.{Mode}
 use Rattle.profile_top.specs.Answers.{Gives, answer_of, answer_in, input_limit, too_long}
 
 at_least : (new : Option (List ℕ)) (input bytes : List ℕ) → Consumes (Some input) new bytes → length bytes ≤ length input

@@ -18,10 +18,10 @@ use Rattle.info_group.specs.declared.group.Group.{Group}
 use Rattle.info_group.specs.Grouping.{groups_of}
 use Rattle.info_group.specs.Keys.{file_key, module_key}
 use Rattle.info_group.specs.Text.{groups_text}
-use Rattle.profile_top.specs.Schedule.{Played, schedule_of}
+use Rattle.step_play.specs.Schedule.{Played, schedule_of}
 use Rattle.profile_top.specs.declared.answer.Answer.{Answer}
-use Rattle.profile_top.specs.declared.answer.Mode.{Mode}
-use Rattle.profile_top.specs.declared.answer.Mode.TheVariants as mode
+use Rattle.profile_top.specs.declared.mode.Mode.{Mode}
+use Rattle.profile_top.specs.declared.mode.Mode.TheVariants as mode
 
 pub record Written : Type 0 where
   pub status : ℕ
@@ -79,6 +79,9 @@ abbrev pub trace_checked : List ℕ → Result Trace (ℕ × Code) → Written
 trace_checked input (Ok trace) = rounds_checked input trace (rounds_of trace)
 trace_checked input (Err why) = refused [] why
 
+abbrev pub checked : List ℕ → Written
+checked input = if is_schedule input then steps_checked input (steps_of input) else trace_checked input (trace_of input)
+
 -- ---- `files` and `modules`
 
 -- `line N: info`
@@ -102,7 +105,7 @@ abbrev pub answer_in : Mode → List ℕ → Written
 answer_in mode.Step input = step_read (steps_of input)
 answer_in mode.Files input = grouped file_key (rows_of input)
 answer_in mode.Modules input = grouped module_key (rows_of input)
-answer_in mode.Check input = if is_schedule input then steps_checked input (steps_of input) else trace_checked input (trace_of input)
+answer_in mode.Check input = checked input
 
 -- the most bytes of an input
 abbrev pub input_limit : ℕ

@@ -1,5 +1,1 @@
-pub mod Printed
-pub mod Acts
-pub mod Schedule
 pub mod Answers
-pub mod Reached

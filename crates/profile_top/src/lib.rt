@@ -1,17 +1,14 @@
 //! The top calls: bytes in, bytes out.
 #![tactic(auto)]
 
-mod act;
 mod answer;
-pub mod laws;
-mod number;
-mod play;
-mod print;
-mod schedule;
+mod check;
+mod groups;
+mod mode;
+mod step;
 mod still;
 
-pub use answer::INPUT_LIMIT;
-pub use still::memprof_still;
+pub use still::{INPUT_LIMIT, memprof_still};
 
 #[cfg(test)]
 mod tests;

@@ -4,52 +4,23 @@ ghost use Rattle.std.specs.Prelude.{◌≡◌, ◌≢◌, ◌<◌, ◌≤◌, �
 ghost use Rattle.std.specs.String.{string_bytes};
 ghost use Rattle.std.specs.Io.KnownBytes.{Appends};
 ghost use Rattle.outside.specs.Faults.{Rose};
-ghost use Rattle.outside.specs.Bytes.{AppendsPrefix};
-ghost use Rattle.profile_top.specs.declared.answer.Mode.{Mode};
-ghost use Rattle.profile_top.specs.Answers.{info_word, mode_word, mode_of, answer_of, Served, ServedInPart};
+ghost use Rattle.outside.specs.Bytes.{AppendsPrefix, TookWithin};
+ghost use Rattle.profile_top.specs.declared.mode.Mode.{Mode};
+ghost use Rattle.profile_top.specs.Answers.{input_limit, mode_of, answer_of, Served, ServedInPart};
 
-use crate::answer::{INPUT_LIMIT, Mode, answer_input};
+use crate::mode::{answer_input, mode_of};
 use outside::{ReadError, Sink, Source, read_all, write_all};
 use std::alloc::Global;
 
-/// The words that read allocinfo.
-fn info_word(word: &[u8]) -> Option<Mode>
-    ensures { result ≡ info_word word.now }
-{
-    if word == b"files".as_slice() {
-        return Some(Mode::Files);
-    }
-    if word == b"modules".as_slice() {
-        return Some(Mode::Modules);
-    }
-    None
-}
-
-fn mode_word(word: &[u8]) -> Option<Mode>
-    ensures { result ≡ mode_word word.now }
-{
-    match word {
-        b"step" => Some(Mode::Step),
-        b"check" => Some(Mode::Check),
-        _ => info_word(word),
-    }
-}
-
-/// What the words ask for. None where they are not taken.
-fn mode_of(words: &[String]) -> Option<Mode>
-    ensures { result ≡ mode_of (map string_bytes words.now) }
-{
-    match words {
-        [word] => mode_word(word.as_bytes()),
-        _ => None,
-    }
-}
+/// The most bytes of an input.
+pub const INPUT_LIMIT: usize = 4_194_304;
 
 /// Writes the text. The status is 5 where that fails.
 fn finish<K: Sink>(sink: &mut K, status: u8, text: &[u8]) -> u8
     ensures whole { result ≢ 5 → (result ≡ status) × Appends (K.taken sink.old) (K.taken sink.new) text.now }
     ensures part { result ≡ 5 → (status ≡ 5) ⊎ (Rose (K.faults sink.old) (K.faults sink.new) × AppendsPrefix (K.taken sink.old) (K.taken sink.new) text.now) }
     ensures kept { K.faults sink.old ≤ K.faults sink.new }
+    ensures steady { result ≢ 5 → K.faults sink.new ≡ K.faults sink.old }
 {
     match write_all(sink, text) {
         Ok(()) => status,
@@ -78,6 +49,11 @@ pub fn memprof_still<S: Source, K: Sink>(
     ensures write_fault { result ≡ 5 → Rose (K.faults sink.old) (K.faults sink.new) }
     ensures complete { (mode : Mode) → mode_of (map string_bytes words.now) ≡ Some mode → ¬ Rose (S.faults source.old) (S.faults source.new) → ¬ Rose (K.faults sink.old) (K.faults sink.new) → result ≢ 3 → result < 2 }
     ensures faults { (S.faults source.old ≤ S.faults source.new) × (K.faults sink.old ≤ K.faults sink.new) }
+    // No call of the source or the sink failed, but where the status says so.
+    ensures no_read_fault { result ≢ 4 → S.faults source.new ≡ S.faults source.old }
+    ensures no_write_fault { result ≢ 5 → K.faults sink.new ≡ K.faults sink.old }
+    // Where memory ran out, no more was read than an input may have.
+    ensures within { result ≡ 3 → TookWithin input_limit (S.left source.old) (S.left source.new) }
 {
     let Some(mode) = mode_of(words) else {
         return 2;

@@ -1,6 +1,6 @@
 use Rattle.std.proofs.Common.{◌≡◌, ◌+◌, ◌≤◌, length}
 use Rattle.text_form.specs.Lines.{lines_of}
-use Rattle.profile_top.proofs.answer.line_count.Given as goal
+use Rattle.profile_top.proofs.check.line_count.Given as goal
 
 abbrev pub invariant-loop-after : goal.invariant-loop-after
 invariant-loop-after l = record {
