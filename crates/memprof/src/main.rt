@@ -1,18 +1,27 @@
 //! The program `memprof`: memory-allocation profiles by code tag.
 #![tactic(auto)]
 
-ghost use Rattle.std.specs.Prelude.{◌≡◌, ◌≤◌, ◌↔◌, drop, IsSome};
+ghost use Rattle.std.specs.Prelude.{ℕ, List, ◌≡◌, ◌<◌, ◌⊎◌, ◌↔◌, drop, map, codes, Some, None, IfOk, IfErr, OnErr};
+ghost use Rattle.std.specs.Option.{option_copied};
+ghost use Rattle.std.specs.String.{string_bytes};
+ghost use Rattle.std.specs.Io.KnownBytes.{Appends};
+ghost use Rattle.profile_top.specs.declared.mode.Mode.{Mode};
+ghost use Rattle.profile_top.specs.Answers.{mode_of, answer_of};
+ghost use Rattle.memprof.specs.Unread.{status_of};
 
-use outside::{StdSink, StdSource};
+use outside::{Sink, Source, StdSink, StdSource};
 use profile_top::memprof_still;
-use std::alloc::AllocError;
+use std::alloc::{AllocError, Global};
+use std::env;
 use std::process::ExitCode;
-use std::{env, io};
+
+#[cfg(test)]
+mod tests;
 
 /// The status where memory ran out.
 const NO_MEMORY: u8 = 3;
 
-/// The status where the words are not taken. A word that is not text is none that is taken.
+/// The status where the words are not taken.
 const USAGE: u8 = 2;
 
 /// The words of the command line: the arguments behind the first, which is the program's name.
@@ -27,7 +36,11 @@ fn words(arguments: &[String]) -> &[String]
 
 /// What is said on standard error.
 fn complaint(status: u8) -> Option<&'static str>
-    ensures said { IsSome result ↔ ((2 ≤ status) × (status ≤ 5)) }
+    ensures usage { status ≡ 2 → option_copied result ≡ Some (codes "memprof: usage") }
+    ensures memory { status ≡ 3 → option_copied result ≡ Some (codes "memprof: out of memory") }
+    ensures read { status ≡ 4 → option_copied result ≡ Some (codes "memprof: read fault") }
+    ensures write { status ≡ 5 → option_copied result ≡ Some (codes "memprof: write fault") }
+    ensures nothing { (status < 2) ⊎ (5 < status) → option_copied result ≡ None }
 {
     match status {
         2 => Some("memprof: usage"),
@@ -38,20 +51,44 @@ fn complaint(status: u8) -> Option<&'static str>
     }
 }
 
+/// Why there are no arguments to serve.
+#[derive(Debug, Drop)]
+enum Unread {
+    /// They can't be read as texts, so that they are none that are taken.
+    Failed,
+    Memory(AllocError),
+}
+
+/// Serves the words behind the program's name, and answers the status.
+fn serve<S: Source, K: Sink>(
+    alloc: Global,
+    arguments: Result<Vec<String>, Unread>,
+    source: &mut S,
+    sink: &mut K,
+) -> u8
+    ensures unread { IfErr arguments (λ why. result ≡ status_of why) }
+    ensures untouched { OnErr arguments ((source.new ≡ source.old) × (sink.new ≡ sink.old)) }
+    ensures words { IfOk arguments (λ all. (result ≡ 2) ↔ (mode_of (map string_bytes (drop 1 all.items)) ≡ None)) }
+    ensures decided { IfOk arguments (λ all. (mode : Mode) (input : List ℕ) → mode_of (map string_bytes (drop 1 all.items)) ≡ Some mode → S.left source.old ≡ Some input → result < 2
+        → (result ≡ (answer_of mode input).status) × Appends (K.taken sink.old) (K.taken sink.new) (answer_of mode input).text) }
+{
+    match arguments {
+        Ok(all) => memprof_still(alloc, words(all.as_slice()), source, sink),
+        Err(Unread::Failed) => USAGE,
+        Err(Unread::Memory(_)) => NO_MEMORY,
+    }
+}
+
 fn main(rt: HostRuntime) -> ExitCode {
-    let status = match env::args(&rt) {
-        Ok(all) => match all.collect::<Vec<String>>(rt.alloc()) {
-            Ok(arguments) => {
-                let words = words(arguments.as_slice());
-                let mut source = StdSource::new(rt.stdin());
-                let mut sink = StdSink::new(rt.stdout());
-                memprof_still(rt.alloc(), words, &mut source, &mut sink)
-            }
-            Err(AllocError) => NO_MEMORY,
-        },
-        Err(error) if error.kind() == io::ErrorKind::InvalidData => USAGE,
-        Err(_) => NO_MEMORY,
+    let arguments = match env::args(&rt) {
+        Ok(all) => all
+            .collect::<Vec<String>>(rt.alloc())
+            .map_err(Unread::Memory),
+        Err(_) => Err(Unread::Failed),
     };
+    let mut source = StdSource::new(rt.stdin());
+    let mut sink = StdSink::new(rt.stdout());
+    let status = serve(rt.alloc(), arguments, &mut source, &mut sink);
     if let Some(text) = complaint(status) {
         let _said = eprintln!(rt; "{text}");
     }

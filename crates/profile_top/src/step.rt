@@ -7,7 +7,7 @@ ghost use Rattle.profile_top.specs.Answers.{Gives, step_played, step_read};
 
 use crate::answer::{Answer, refusal};
 use std::alloc::{AllocError, Global};
-use step_play::{End, run_schedule};
+use step_play::{End, Run, run_schedule};
 use tag_section::Sections;
 use trace::{Steps, TextError, read_steps};
 
@@ -16,10 +16,10 @@ fn schedule_answer(alloc: Global, steps: Steps) -> Result<Answer, AllocError>
     requires formed { AreSteps steps }
     ensures { IfOk result (λ answer. Gives answer (step_played steps)) }
 {
-    let run = run_schedule(alloc, steps)?;
-    match run.end {
+    let Run { core, end } = run_schedule(alloc, steps)?;
+    match end {
         End::Text(text) => Ok(Answer { status: 0, text }),
-        End::Refused { line, code } => refusal(alloc, run.core.sections(), line, code),
+        End::Refused { line, code } => refusal(alloc, core.sections(), line, code),
     }
 }
 

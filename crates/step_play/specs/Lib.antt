@@ -3,3 +3,4 @@ pub mod Printed
 pub mod Schedule
 pub mod Playing
 pub mod Reached
+pub mod Rows
