@@ -8,6 +8,7 @@ mod mode;
 mod step;
 mod still;
 
+pub use mode::Mode;
 pub use still::{INPUT_LIMIT, memprof_still};
 
 #[cfg(test)]

@@ -13,7 +13,7 @@ use std::alloc::{AllocError, Global};
 
 /// The commands.
 #[derive(Clone, Copy, Debug, PartialEq, Eq)]
-pub(crate) enum Mode {
+pub enum Mode {
     Step,
     Check,
     Files,
