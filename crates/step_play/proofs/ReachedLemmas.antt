@@ -1,5 +1,6 @@
 -- Every state that a schedule passes through is that of a core.
-use Rattle.std.proofs.Common.{◌≡◌, ℕ, zero, suc, ◌+◌, ◌<◌, ◌==◌, nat_lt, List, [], ◌∷◌, length, refl, sym, ap, ◌∙◌, subst, arith, append-nil, Option, Some, None, Bool, true, false, cond, Result, Ok, Err, All}
+use Rattle.std.proofs.Common.{◌≡◌, ℕ, zero, suc, ◌+◌, ◌<◌, ◌==◌, nat_lt, List, [], ◌∷◌, length, map, refl, sym, ap, ◌∙◌, subst, arith, append-nil, add-zero, ◌≤◌, ◌++◌, Option, Some, None, Bool, true, false, cond, Result, Ok, Err}
+use Rattle.std.proofs.lemmas.Bool.{eqb-true}
 use Rattle.std.specs.List.{AllByRecursion}
 use Rattle.tag_model.specs.declared.state.Kind.{Kind}
 use Rattle.tag_model.specs.Laws.{live_of}
@@ -9,11 +10,10 @@ use Rattle.core_steps.specs.declared.op.Actor.{Actor}
 use Rattle.core_steps.specs.declared.op.Actor.TheVariants as actor
 use Rattle.core_steps.specs.declared.op.Op.{Op}
 use Rattle.cpu_ops.specs.declared.op.CpuOp.{CpuOp}
-use Rattle.module_ops.specs.declared.op.ManagerOp.{ManagerOp}
-use Rattle.core_steps.specs.CoreState.{cpu_op, manager_op, queued_cpu, queued_manager}
 use Rattle.cpu_ops.specs.declared.refused.StepRefused.{StepRefused}
-use Rattle.cpu_ops.specs.Machine.{hand_at}
-use Rattle.core_steps.specs.CoreState.{CoreState, IsCore, IsActor, IsOpOf, event_of, fresh, ops_of, refused, stepped, word_state}
+use Rattle.module_ops.specs.declared.op.ManagerOp.{ManagerOp}
+use Rattle.cpu_ops.specs.Machine.{hand_at, no_places}
+use Rattle.core_steps.specs.CoreState.{CoreState, IsCore, IsActor, IsOpOf, event_of, fresh, cpu_op, manager_op, of_cpu, of_manager, ops_of, queued, queued_cpu, queued_manager, reads_of, refused, state_after, stepped, word_state}
 use Rattle.module_ops.specs.Modules.{managed}
 use Rattle.core_steps.specs.Moved.{core_of}
 use Rattle.tag_model.specs.Moves.{Move}
@@ -21,6 +21,10 @@ use Rattle.core_steps.specs.Release.{IfReleases}
 use Rattle.core_steps.specs.StepsLeft.{steps_left}
 use Rattle.core_steps.proofs.Fresh.{core_fresh}
 use Rattle.core_steps.proofs.Kept.{gone}
+use Rattle.core_steps.proofs.Left.{left_after, left_none}
+use Rattle.core_steps.proofs.ManagerLeft.{manager_idle, manager_left}
+use Rattle.core_steps.proofs.ManagerRow.{manager_row}
+use Rattle.tag_model.specs.StepRules.{StepsWith}
 use Rattle.core_steps.proofs.ManagerCore.{manager_core}
 use Rattle.core_steps.proofs.ManagerRelease.{manager_releases}
 use Rattle.core_steps.proofs.Meaning.{core_of_fresh, moved_after, managed_after}
@@ -37,8 +41,8 @@ use Rattle.trace.specs.Judging.{◌>>=◌, at}
 use Rattle.trace.specs.StepForm.{AreSteps, IsStepAct}
 use Rattle.step_play.specs.Acts.{actor_of, op_of}
 use Rattle.step_play.specs.Printed.{Setting, total_moved}
-use Rattle.step_play.specs.Reached.{Reached, IsSetting, IsLineOf}
-use Rattle.step_play.specs.Schedule.{Played, core_played, nothing_played, with_step, with_queued, with_text, unless_refused, one_step, steps_taken, all_taken, is_idle, queues_on, steps_on, words_of, number_of, act_on, play, setting_of, shape_of, ◌then◌}
+use Rattle.step_play.specs.Reached.{Reached, IsSetting, IsLineOf, PassesThrough}
+use Rattle.step_play.specs.Schedule.{Played, core_played, nothing_played, with_step, with_queued, unless_refused, one_step, steps_taken, all_taken, is_idle, queues_on, steps_on, words_of, number_of, act_on, play, setting_of, shape_of, ◌then◌}
 use Rattle.step_play.specs.Playing.{IsAct}
 use Rattle.step_play.proofs.Lines.{act_is, shape_checked, sections_fit}
 use Rattle.step_play.proofs.Totals.{total_here}
@@ -46,32 +50,56 @@ use Rattle.step_play.proofs.Totals.{total_here}
 -- ---- a reached state is that of a core
 
 first_core : (s : Setting) → IsSetting s → IsCore (core_played s (nothing_played s))
+unfolding no_places
 first_core s is = subst IsCore (core_of_fresh s.shape s.sections) (core_fresh s.shape s.sections _ _ _ is.shape is.sections refl refl refl)
 
--- the core that a step leads to
+-- the core that a step leads to is that of what was played with it
+step_shown : (s : Setting) (p : Played) (who : Actor) → IsCore (core_played s p) → refused (core_played s p) who ≡ None → stepped (core_played s p) who ≡ core_played s (with_step s who p)
+step_shown s p (actor.Cpu cpu) core none = moved_after (core_played s p) cpu p.moves core none refl
+step_shown s p actor.Manager core none =
+    managed_after (core_played s p) p.moves refl
+    ∙ ap (λ (moves : List Move). core_of s.shape s.sections p.machine (managed s.shape s.sections (core_played s p).words p.modules) moves) (sym (append-nil p.moves))
+
+stepped_core : (s : CoreState) (who : Actor) → IsCore s → refused s who ≡ None → IsCore (stepped s who)
+stepped_core s (actor.Cpu cpu) core none = (gone s cpu core none).core
+stepped_core s actor.Manager core none = manager_core s core none
+
 step_core : (s : Setting) (p : Played) (who : Actor) → IsCore (core_played s p) → refused (core_played s p) who ≡ None → IsCore (core_played s (with_step s who p))
-step_core s p (actor.Cpu cpu) core none = subst IsCore (moved_after (core_played s p) cpu p.moves core none refl) (gone (core_played s p) cpu core none).core
-step_core s p actor.Manager core none =
-    subst (λ (moves : List Move). IsCore (core_of s.shape s.sections p.machine (managed s.shape s.sections (core_played s p).words p.modules) moves)) (sym (append-nil p.moves))
-    (subst IsCore (managed_after (core_played s p) p.moves refl) (manager_core (core_played s p) core none))
+step_core s p who core none = subst IsCore (step_shown s p who core none) (stepped_core (core_played s p) who core none)
+
+stepped_row : (s : CoreState) (who : Actor) → IsCore s → refused s who ≡ None → (reads : ℕ) → StepsWith s.shape (state_after reads s) (state_after (reads + reads_of s who) (stepped s who))
+stepped_row s (actor.Cpu cpu) core none reads = rw add-zero ((gone s cpu core none).steps reads)
+stepped_row s actor.Manager core none reads = manager_row s core none reads
+
+-- the core in which an op is queued is that of what was played with it
+queued_shown : (s : Setting) (p : Played) (who : Actor) (op : Op) → queued (core_played s p) who op ≡ core_played s (with_queued s who op p)
+queued_shown s p (actor.Cpu cpu) op = go (cpu_op op)
+  where
+    go : (o : Option CpuOp) → queued_cpu (core_played s p) cpu o ≡ core_of s.shape s.sections (queued_cpu (core_played s p) cpu o).machine (queued_cpu (core_played s p) cpu o).modules p.moves
+    go None = refl
+    go (Some own) = refl
+queued_shown s p actor.Manager op = go (manager_op op)
+  where
+    go : (o : Option ManagerOp) → queued_manager (core_played s p) o ≡ core_of s.shape s.sections (queued_manager (core_played s p) o).machine (queued_manager (core_played s p) o).modules p.moves
+    go None = refl
+    go (Some own) = refl
 
 queue_core : (s : Setting) (p : Played) (who : Actor) (op : Op) → IsCore (core_played s p) → IsActor (core_played s p) who → IsOpOf s.sections who op → IsCore (core_played s (with_queued s who op p))
-queue_core s p (actor.Cpu cpu) op core below is = go (cpu_op op) (core_queued (core_played s p) (actor.Cpu cpu) op core below is)
-  where
-    go : (o : Option CpuOp) → IsCore (queued_cpu (core_played s p) cpu o) → IsCore (core_of s.shape s.sections (queued_cpu (core_played s p) cpu o).machine (queued_cpu (core_played s p) cpu o).modules p.moves)
-    go None c = c
-    go (Some x) c = c
-queue_core s p actor.Manager op core below is = go (manager_op op) (core_queued (core_played s p) actor.Manager op core below is)
-  where
-    go : (o : Option ManagerOp) → IsCore (queued_manager (core_played s p) o) → IsCore (core_of s.shape s.sections (queued_manager (core_played s p) o).machine (queued_manager (core_played s p) o).modules p.moves)
-    go None c = c
-    go (Some x) c = c
+queue_core s p who op core below is = subst IsCore (queued_shown s p who op) (core_queued (core_played s p) who op core below is)
 
 pub reached_core : (s : Setting) (p : Played) → IsSetting s → Reached s p → IsCore (core_played s p)
 reached_core s p is Reached.first = first_core s is
 reached_core s p is (Reached.steps {p = q} who r none) = step_core s q who (reached_core s q is r) none
 reached_core s p is (Reached.queues {p = q} who op r of op_is) = queue_core s q who op (reached_core s q is r) of op_is
 reached_core s p is (Reached.prints {p = q} more r) = reached_core s q is r
+
+-- a step from a reached state to the next is one of the step rules, words and all
+pub reached_row : (s : Setting) (p : Played) (who : Actor) → IsSetting s → Reached s p → refused (core_played s p) who ≡ None → (reads : ℕ)
+    → StepsWith s.shape (state_after reads (core_played s p)) (state_after (reads + reads_of (core_played s p) who) (core_played s (with_step s who p)))
+reached_row s p who is r none reads =
+    let core = reached_core s p is r in
+    subst (λ (next : CoreState). StepsWith s.shape (state_after reads (core_played s p)) (state_after (reads + reads_of (core_played s p) who) next)) (step_shown s p who core none)
+    (stepped_row (core_played s p) who core none reads)
 
 pub reached_releases : (s : Setting) (p : Played) (who : Actor) → IsSetting s → Reached s p → refused (core_played s p) who ≡ None → IfReleases (core_played s p) (event_of (core_played s p) who)
 reached_releases s p (actor.Cpu cpu) is r none = tt
@@ -149,6 +177,49 @@ lines_reach s (line ∷ lines) p q all r is =
 pub play_reaches : (s : Setting) (lines : List StepLine) (q : Played) → AllByRecursion (IsLineOf s) lines → play s lines (nothing_played s) ≡ Ok q → Reached s q
 play_reaches s lines q all is = lines_reach s lines (nothing_played s) q all Reached.first is
 
+-- ---- `all` ends idle
+
+stepped_left : (s : CoreState) (who : Actor) → IsCore s → refused s who ≡ None → steps_left (stepped s who) who < steps_left s who
+stepped_left s (actor.Cpu cpu) core none = omega (arith, left_after s cpu core none)
+stepped_left s actor.Manager core none = manager_left s core none
+
+step_left : (s : Setting) (p : Played) (who : Actor) → IsCore (core_played s p) → refused (core_played s p) who ≡ None → steps_left (core_played s (with_step s who p)) who < steps_left (core_played s p) who
+step_left s p who core none =
+    subst (λ (next : CoreState). steps_left next who < steps_left (core_played s p) who) (step_shown s p who core none) (stepped_left (core_played s p) who core none)
+
+none_left : (s : CoreState) (who : Actor) → IsCore s → steps_left s who ≡ 0 → ops_of s who ≡ []
+none_left s (actor.Cpu cpu) core h = ap (map of_cpu) (left_none s cpu core h)
+none_left s actor.Manager core h = ap (map of_manager) ((manager_idle s core).0 h)
+
+no_ops : (ops : List Op) → (length ops == 0) ≡ true → ops ≡ []
+no_ops [] e = refl
+no_ops (op ∷ ops) e = let zero = eqb-true (length (op ∷ ops)) 0 e in absurd (omega (arith, zero))
+
+-- a step that is taken isn't refused
+one_was : (s : Setting) (who : Actor) (p q : Played) (o : Option StepRefused) → refused (core_played s p) who ≡ o → unless_refused o (with_step s who p) ≡ Ok q → (refused (core_played s p) who ≡ None) × (with_step s who p ≡ q)
+one_was s who p q None none is = (none, cc)
+one_was s who p q (Some why) none is = cc
+
+-- with enough turns
+all_ends : (s : Setting) (who : Actor) (n : ℕ) (p q : Played) → IsSetting s → Reached s p → steps_left (core_played s p) who ≤ n → all_taken s who n p ≡ Ok q → ops_of (core_played s q) who ≡ []
+all_ends s who zero p q is r enough e =
+    let same : p ≡ q = cc in
+    subst (λ (x : Played). ops_of (core_played s x) who ≡ []) same (none_left (core_played s p) who (reached_core s p is r) (omega arith))
+all_ends s who (suc n) p q is r enough e = go (is_idle s who p) refl (λ m one rest fewer. all_ends s who n m q is (step_reaches s who p m r one) fewer rest) e
+  where
+    go : (idle : Bool) → is_idle s who p ≡ idle → ((m : Played) → one_step s who p ≡ Ok m → all_taken s who n m ≡ Ok q → steps_left (core_played s m) who ≤ n → ops_of (core_played s q) who ≡ [])
+        → cond idle (Ok p) (one_step s who p >>= all_taken s who n) ≡ Ok q → ops_of (core_played s q) who ≡ []
+    go true idle later e = let same : p ≡ q = cc in subst (λ (x : Played). ops_of (core_played s x) who ≡ []) same (no_ops (ops_of (core_played s p) who) idle)
+    go false busy later e =
+        let b = bound_ok (one_step s who p) (all_taken s who n) q e in
+        let was = one_was s who p b.0 (refused (core_played s p) who) refl b.1 in
+        let less : steps_left (core_played s b.0) who < steps_left (core_played s p) who =
+        subst (λ (x : Played). steps_left (core_played s x) who < steps_left (core_played s p) who) was.1 (step_left s p who (reached_core s p is r) was.0) in
+        later b.0 b.1 b.2 (omega (arith, less, enough))
+
+pub all_idle : (s : Setting) (who : Actor) (p q : Played) → IsSetting s → Reached s p → steps_on s who None p ≡ Ok q → ops_of (core_played s q) who ≡ []
+all_idle s who p q is r e = all_ends s who (steps_left (core_played s p) who) p q is r (omega arith) e
+
 -- ---- a schedule that is read
 
 pub setting_is : (steps : Steps) → AreSteps steps → IsSetting (setting_of steps)
@@ -168,3 +239,14 @@ lines_ask steps (line ∷ lines) all = (act_fresh steps line.act (act_is steps.c
 
 pub schedule_asks : (steps : Steps) → AreSteps steps → AllByRecursion (IsLineOf (setting_of steps)) steps.body
 schedule_asks steps are = lines_ask steps steps.body are.acts
+
+first_all : {X : Type 0} (P : X → Type 0) (front back : List X) → AllByRecursion P (front ++ back) → AllByRecursion P front
+first_all P [] back all = tt
+first_all P (x ∷ front) back all = (all.0, first_all P front back all.1)
+
+-- the first lines of a schedule, and then some steps
+pub passed : (steps : Steps) (q : Played) → AreSteps steps → PassesThrough steps q → Reached (setting_of steps) q
+passed steps q are p =
+    let s = setting_of steps in
+    let asks = subst (AllByRecursion (IsLineOf s)) p.split (schedule_asks steps are) in
+    steps_reach s p.who p.count p.before q (play_reaches s p.front p.before (first_all (IsLineOf s) p.front p.back asks) p.lines) p.on

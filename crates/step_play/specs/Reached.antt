@@ -1,12 +1,13 @@
 -- The states that a schedule passes through.
-use Rattle.std.specs.Prelude.{◌≡◌, ℕ, None, List}
+use Rattle.std.specs.Prelude.{◌≡◌, ℕ, None, Ok, List, ◌++◌}
 use Rattle.tag_model.specs.Shape.{IsChecked}
 use Rattle.core_steps.specs.declared.op.Actor.{Actor}
 use Rattle.core_steps.specs.declared.op.Op.{Op}
 use Rattle.core_steps.specs.CoreState.{IsActor, IsOpOf, SectionsFitShape, refused}
 use Rattle.trace.specs.declared.steps.StepLine.{StepLine}
+use Rattle.trace.specs.declared.steps.Steps.{Steps}
 use Rattle.step_play.specs.Printed.{Setting}
-use Rattle.step_play.specs.Schedule.{Played, core_played, nothing_played, with_step, with_queued, with_text}
+use Rattle.step_play.specs.Schedule.{Played, core_played, nothing_played, play, setting_of, steps_taken, with_step, with_queued, with_text}
 use Rattle.step_play.specs.Playing.{IsAct}
 
 -- from nothing played on, by steps that aren't refused, by ops that are queued, and by text that is printed
@@ -24,3 +25,14 @@ pub record IsSetting (s : Setting) : Type 0 where
 -- a line asks for what the setting has
 abbrev pub IsLineOf : Setting → StepLine → Type 0
 IsLineOf s line = IsAct (core_played s (nothing_played s)) line.act
+
+-- the schedule passes through the state: after some of its first lines, and then some steps of an actor
+pub record PassesThrough (steps : Steps) (q : Played) : Type 0 where
+  pub front : List StepLine
+  pub back : List StepLine
+  pub split : steps.body ≡ front ++ back
+  pub before : Played
+  pub lines : play (setting_of steps) front (nothing_played (setting_of steps)) ≡ Ok before
+  pub who : Actor
+  pub count : ℕ
+  pub on : steps_taken (setting_of steps) who count before ≡ Ok q

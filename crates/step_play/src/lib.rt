@@ -8,6 +8,6 @@ mod print;
 mod rows;
 mod schedule;
 
-pub use laws::schedules_are_safe;
-pub use rows::worked_schedules;
+pub use laws::{inputs_are_safe, schedules_are_safe};
+pub use rows::{worked_schedules, worked_schedules_of_modules};
 pub use schedule::{End, Run, run_schedule};
