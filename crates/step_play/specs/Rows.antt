@@ -1,5 +1,5 @@
 -- Worked schedules, as the lines that are read from them, and what they come to.
-use Rattle.std.specs.Prelude.{ℕ, ◌+◌, Some, None, Result, Ok, Err, List, [], ◌∷◌, ◌++◌, codes}
+use Rattle.std.specs.Prelude.{ℕ, ◌+◌, Some, None, Result, Ok, Err, List, [], ◌∷◌, codes}
 use Rattle.tag_section.specs.Section.{Section}
 use Rattle.trace.specs.declared.code.Code.{Code}
 use Rattle.trace.specs.declared.steps.StepAct.{StepAct}
@@ -42,11 +42,11 @@ one_allocation = of_kernel (Do (Cpu 0) (Open 1 0 0 4096) ∷ takes (Cpu 0) 3 ∷
 
 abbrev pub remote_free_words : Steps
 remote_free_words = of_kernel (
-  Do (Cpu 0) (Open 1 0 0 4096) ∷ takes (Cpu 0) 3 ∷ Do (Cpu 1) (Close 1) ∷ takes (Cpu 1) 3 ∷ Print ∷ Words 0 0 ∷ [])
+    Do (Cpu 0) (Open 1 0 0 4096) ∷ takes (Cpu 0) 3 ∷ Do (Cpu 1) (Close 1) ∷ takes (Cpu 1) 3 ∷ Print ∷ Words 0 0 ∷ [])
 
 abbrev pub split_counts : Steps
 split_counts = of_kernel (
-  Do (Cpu 0) (Open 1 0 0 16384) ∷ Do (Cpu 0) (Split 1 4 2) ∷ takes (Cpu 0) 11 ∷ Print ∷ Do (Cpu 0) (Close 2) ∷ takes (Cpu 0) 3 ∷ Print ∷ [])
+    Do (Cpu 0) (Open 1 0 0 16384) ∷ Do (Cpu 0) (Split 1 4 2) ∷ takes (Cpu 0) 11 ∷ Print ∷ Do (Cpu 0) (Close 2) ∷ takes (Cpu 0) 3 ∷ Print ∷ [])
 
 -- ---- a schedule of two modules: its eight lines, and the acts from line 9 on, of which the first two load `ext`
 
@@ -69,12 +69,12 @@ allocates_in_ext cpu size acts =
 
 abbrev pub split_race : Steps
 split_race = of_modules (allocates_in_ext 1 8192 (
-  Do Manager (Unload 1) ∷ takes Manager 2 ∷ Do (Cpu 0) (Split 1 2 2) ∷ takes (Cpu 0) 4 ∷ Do (Cpu 1) (Close 2) ∷ takes (Cpu 1) 3 ∷ Go Manager None ∷ []))
+    Do Manager (Unload 1) ∷ takes Manager 2 ∷ Do (Cpu 0) (Split 1 2 2) ∷ takes (Cpu 0) 4 ∷ Do (Cpu 1) (Close 2) ∷ takes (Cpu 1) 3 ∷ Go Manager None ∷ []))
 
 -- a free stands before its last step while `ext` is unloaded
 abbrev pub free_under_way : List StepAct → Steps
 free_under_way acts = of_modules (allocates_in_ext 0 64 (
-  Do (Cpu 1) (Close 1) ∷ takes (Cpu 1) 2 ∷ Do Manager (Unload 1) ∷ Go Manager None ∷ acts))
+    Do (Cpu 1) (Close 1) ∷ takes (Cpu 1) 2 ∷ Do Manager (Unload 1) ∷ Go Manager None ∷ acts))
 
 abbrev pub free_in_progress : Steps
 free_in_progress = free_under_way []
@@ -84,8 +84,8 @@ clean_after_kept = free_under_way (takes (Cpu 1) 1 ∷ Do Manager Clean ∷ take
 
 abbrev pub range_used_again : Steps
 range_used_again = of_modules (allocates_in_ext 1 8192 (
-  Do (Cpu 0) (Split 1 2 2) ∷ takes (Cpu 0) 4 ∷ Do (Cpu 1) (Close 1) ∷ Do (Cpu 1) (Close 2) ∷ takes (Cpu 1) 6 ∷ Do Manager (Unload 1) ∷ Go Manager None
-  ∷ Do Manager (Load 2) ∷ takes Manager 1 ∷ Do (Cpu 0) (Enter 2) ∷ Do (Cpu 0) (Open 3 2 0 100) ∷ takes (Cpu 0) 4 ∷ Print ∷ Words 2 0 ∷ []))
+    Do (Cpu 0) (Split 1 2 2) ∷ takes (Cpu 0) 4 ∷ Do (Cpu 1) (Close 1) ∷ Do (Cpu 1) (Close 2) ∷ takes (Cpu 1) 6 ∷ Do Manager (Unload 1) ∷ Go Manager None
+    ∷ Do Manager (Load 2) ∷ takes Manager 1 ∷ Do (Cpu 0) (Enter 2) ∷ Do (Cpu 0) (Open 3 2 0 100) ∷ takes (Cpu 0) 4 ∷ Print ∷ Words 2 0 ∷ []))
 
 -- ---- the same modules in an area of one tag: the acts from line 10 on
 
