@@ -6,9 +6,9 @@ use Rattle.std.specs.Option.{ok_or}
 use Rattle.std.proofs.lemmas.Bool.{cond_both, eqb-true, eqb-false, leb-true}
 use Rattle.std.proofs.lemmas.Grind.{get_or-set_at}
 use Rattle.std.proofs.lemmas.List.{length-set, get_or-set_other}
-use Rattle.trace.specs.declared.code.Code.{Code}
-use Rattle.trace.specs.declared.code.Code.TheVariants as code
-use Rattle.trace.proofs.Judged.{bound, given, passed, skipped, checked, checks}
+use Rattle.input_form.specs.declared.code.Code.{Code}
+use Rattle.input_form.specs.declared.code.Code.TheVariants as code
+use Rattle.input_form.proofs.Judged.{bound, given, passed, skipped, checked, checks}
 use Rattle.round_check.specs.declared.keys.Bound.{Bound}
 use Rattle.round_check.specs.declared.keys.Bound.TheVariants as kept
 use Rattle.round_check.specs.declared.keys.KeyState.{KeyState}

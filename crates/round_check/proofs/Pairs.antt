@@ -6,7 +6,7 @@ use Rattle.std.proofs.lemmas.Bool.{eqb-true, eq-eqb}
 use Rattle.std.proofs.lemmas.List.{length-replicate, length-set}
 use Rattle.std.proofs.lemmas.List.Elements.{All-cons, All-head, All-tail, All-weaker}
 use Rattle.tag_section.specs.Section.{Section}
-use Rattle.trace.specs.declared.code.Code.TheVariants as code
+use Rattle.input_form.specs.declared.code.Code.TheVariants as code
 use Rattle.trace.specs.declared.traces.Item.{Item}
 use Rattle.trace.specs.declared.traces.Item.TheVariants as item
 use Rattle.trace.specs.declared.traces.OnOp.{OnOp}
@@ -14,9 +14,8 @@ use Rattle.trace.specs.declared.traces.Trace.{Trace}
 use Rattle.trace.specs.declared.traces.TraceOp.{TraceOp}
 use Rattle.trace.specs.declared.traces.TraceOp.TheVariants as op
 use Rattle.trace.specs.Formed.{IsFormedOp, IsFormedOn, IsFormedItem, IsFormedTrace}
-use Rattle.trace.specs.Judging.{at}
-use Rattle.trace.proofs.Binds.{bind_ok, at_ok}
-use Rattle.trace.proofs.Judged.{checked}
+use Rattle.input_form.specs.Judging.{at}
+use Rattle.input_form.proofs.Judged.{bind_ok, at_ok, checked}
 use Rattle.round_check.specs.declared.keys.KeyState.{KeyState}
 use Rattle.round_check.specs.declared.walk.Walk.{Walk}
 use Rattle.round_check.specs.Formed.{FitsOp, FitsOn, FitsItem}
@@ -280,11 +279,11 @@ pub record Round (ops : List OnOp) (before : Walk) : Type 0 where
   pub after : Walk
   pub walked : walk_ops ops before ≡ Ok after
 
-pub round_of : (trace : Trace) (ops : List OnOp) (before : Walk) → IsFormedTrace trace → length trace.sections ≤ 65 → rounds_of trace ≡ Ok tt → IsRound trace ops before → Round ops before
+pub round_of : (trace : Trace) (ops : List OnOp) (before : Walk) → IsFormedTrace trace → rounds_of trace ≡ Ok tt → IsRound trace ops before → Round ops before
 unfolding rounds_of
-round_of trace ops before formed few e r =
+round_of trace ops before formed e r =
     let end = bind_ok (walk_items trace.body start) (λ walk. Ok tt) tt e in
-    let items : All FitsItem trace.body = All-weaker (IsFormedItem trace.cpus trace.sections) FitsItem (λ i is. fits_item trace.cpus trace.sections i formed.cpus.1 few is) trace.body formed.items in
+    let items : All FitsItem trace.body = All-weaker (IsFormedItem trace.cpus trace.sections) FitsItem (λ i is. fits_item trace.cpus trace.sections i formed.cpus.1 formed.sections.few is) trace.body formed.items in
     let parts = subst (All FitsItem) r.stands items in
     let whole = subst (λ xs. walk_items xs start ≡ Ok end.0) r.stands end.1 in
     let after = round_at ops r.back r.left end.0 (items_behind r.front (item.Round ops ∷ r.back) start r.left end.0 r.walked whole) in

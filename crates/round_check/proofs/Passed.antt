@@ -5,11 +5,11 @@ use Rattle.std.proofs.lemmas.Result.{IfOk-at_ok}
 use Rattle.std.proofs.lemmas.Bool.{eqb-true, eqb-false, eq-eqb}
 use Rattle.std.proofs.lemmas.Grind.{get_or-set_at}
 use Rattle.std.proofs.lemmas.List.{length-set, get_or-set_other}
-use Rattle.trace.specs.declared.code.Code.{Code}
-use Rattle.trace.specs.declared.code.Code.TheVariants as code
+use Rattle.input_form.specs.declared.code.Code.{Code}
+use Rattle.input_form.specs.declared.code.Code.TheVariants as code
 use Rattle.trace.specs.declared.traces.TraceOp.{TraceOp}
 use Rattle.trace.specs.declared.traces.TraceOp.TheVariants as op
-use Rattle.trace.proofs.Judged.{bound, checked}
+use Rattle.input_form.proofs.Judged.{bound, checked}
 use Rattle.round_check.specs.declared.keys.Bound.{Bound}
 use Rattle.round_check.specs.declared.keys.KeyState.{KeyState}
 use Rattle.round_check.specs.declared.modules.ModuleState.{ModuleState}

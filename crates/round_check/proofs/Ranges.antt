@@ -1,8 +1,8 @@
 -- One new key more of a split.
 use Rattle.std.proofs.Common.{◌≡◌, ℕ, suc, ◌+◌, ◌-◌, ◌<◌, List, ◌∷◌, Option, Ok, Err, ap, ◌∙◌, arith}
 use Rattle.std.specs.List.{range_with_len}
-use Rattle.trace.specs.declared.code.Code.{Code}
-use Rattle.trace.specs.Judging.{◌>>◌}
+use Rattle.input_form.specs.declared.code.Code.{Code}
+use Rattle.input_form.specs.Judging.{◌>>◌}
 use Rattle.round_check.specs.declared.keys.Bound.{Bound}
 use Rattle.round_check.specs.declared.keys.KeyState.{KeyState}
 use Rattle.round_check.specs.declared.keys.Turn.{Turn}

@@ -5,7 +5,7 @@ use Rattle.trace.specs.declared.traces.Item.TheVariants as item
 use Rattle.trace.specs.declared.traces.OnOp.{OnOp}
 use Rattle.trace.specs.declared.traces.TraceOp.{TraceOp}
 use Rattle.trace.specs.declared.traces.TraceOp.TheVariants as op
-use Rattle.trace.specs.Formed.{IsKey}
+use Rattle.input_form.specs.Places.{IsKey}
 
 abbrev pub FitsOp : TraceOp → Type 0
 FitsOp (op.Page key order) = IsKey key × (order ≤ 10)

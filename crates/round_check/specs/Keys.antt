@@ -2,9 +2,9 @@
 use Rattle.std.specs.Prelude.{ℕ, ◌≡◌, ◌+◌, ◌-◌, ◌/◌, ◌^◌, ◌==◌, true, false, ◌&&◌, not, nat_lt, nat_le, List, [], ◌∷◌, Option, Some, None, is_none, Result, Ok, Err, ⊤, slice_index_or, slice_set}
 use Rattle.std.specs.List.{range_with_len}
 use Rattle.std.specs.Option.{ok_or}
-use Rattle.trace.specs.declared.code.Code.{Code}
-use Rattle.trace.specs.declared.code.Code.TheVariants as code
-use Rattle.trace.specs.Judging.{◌>>=◌, ◌>>◌, need}
+use Rattle.input_form.specs.declared.code.Code.{Code}
+use Rattle.input_form.specs.declared.code.Code.TheVariants as code
+use Rattle.input_form.specs.Judging.{◌>>=◌, ◌>>◌, need}
 use Rattle.round_check.specs.declared.keys.Block.{Block}
 use Rattle.round_check.specs.declared.keys.Bound.{Bound}
 use Rattle.round_check.specs.declared.keys.Bound.TheVariants as kept

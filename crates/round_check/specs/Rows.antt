@@ -1,12 +1,12 @@
 -- Worked rows: lines that are refused, most for two reasons, of which the earlier check names one.
 use Rattle.std.specs.Prelude.{ℕ, List, [], ◌∷◌, ◌++◌, replicate, ⊤, Result, Ok}
-use Rattle.trace.specs.declared.code.Code.{Code}
+use Rattle.input_form.specs.declared.code.Code.{Code}
 use Rattle.trace.specs.declared.traces.Item.{Item}
 use Rattle.trace.specs.declared.traces.Item.TheVariants.{Round, Load}
 use Rattle.trace.specs.declared.traces.OnOp.{OnOp}
 use Rattle.trace.specs.declared.traces.TraceOp.{TraceOp}
 use Rattle.trace.specs.declared.traces.TraceOp.TheVariants.{Page, Kmalloc, Free, Split, Swap, Trim, Hook, Unhook, Enter, Leave, Unload}
-use Rattle.trace.specs.Judging.{◌>>=◌}
+use Rattle.input_form.specs.Judging.{◌>>=◌}
 use Rattle.round_check.specs.declared.walk.Walk.{Walk}
 use Rattle.round_check.specs.Cpus.{idle}
 use Rattle.round_check.specs.Tables.{unbound, absent}

@@ -1,17 +1,17 @@
 -- The check of a trace's rounds: a fold over its items, each line after the other.
 use Rattle.std.specs.Prelude.{ℕ, ◌≡◌, ◌+◌, ◌-◌, ◌==◌, Bool, true, false, ◌||◌, not, nat_lt, List, [], ◌∷◌, ◌++◌, length, take, Result, Ok, Err, ⊤, slice_index_or, slice_set, count_by}
 use Rattle.std.specs.List.{filter, list_any}
-use Rattle.trace.specs.declared.code.Code.{Code}
-use Rattle.trace.specs.declared.code.Code.TheVariants as code
-use Rattle.trace.specs.declared.code.TextError.{TextError}
-use Rattle.trace.specs.declared.code.TextError.TheVariants as text
+use Rattle.input_form.specs.declared.code.Code.{Code}
+use Rattle.input_form.specs.declared.code.Code.TheVariants as code
+use Rattle.input_form.specs.declared.code.TextError.{TextError}
+use Rattle.input_form.specs.declared.code.TextError.TheVariants as text
 use Rattle.trace.specs.declared.traces.Item.{Item}
 use Rattle.trace.specs.declared.traces.Item.TheVariants as item
 use Rattle.trace.specs.declared.traces.OnOp.{OnOp}
 use Rattle.trace.specs.declared.traces.TraceOp.{TraceOp}
 use Rattle.trace.specs.declared.traces.TraceOp.TheVariants as op
 use Rattle.trace.specs.declared.traces.Trace.{Trace}
-use Rattle.trace.specs.Judging.{◌>>=◌, ◌>>◌, need, at}
+use Rattle.input_form.specs.Judging.{◌>>=◌, ◌>>◌, need, at}
 use Rattle.round_check.specs.declared.keys.Bound.TheVariants.{Object}
 use Rattle.round_check.specs.declared.keys.KeyState.{KeyState}
 use Rattle.round_check.specs.declared.keys.Turn.{Turn}

@@ -2,17 +2,10 @@
 
 ghost use Rattle.std.specs.Prelude.{◌≡◌, ◌+◌, ◌-◌, ◌/◌, ◌^◌, ◌<◌, ◌≤◌, ◌∷◌, Some, None, length};
 ghost use Rattle.std.specs.List.{range_with_len};
-ghost use Rattle.trace.specs.Judging.{need};
 ghost use Rattle.round_check.specs.Keys.{own_key, bound_key, free_key, block_of, bind, own_keys, free_keys, bind_all, take_key, give_key, part_keys, split_key, swap_keys, trim_key, Settles};
 
 use crate::keys::{Block, Bound, KeyState, KeyTable, Turn};
-use trace::Code;
-
-pub(crate) fn need(test: bool, code: Code) -> Result<(), Code>
-    ensures { result ≡ need test code }
-{
-    if test { Ok(()) } else { Err(code) }
-}
+use input_form::{Code, need};
 
 // No earlier line of this round, of another CPU, names the key.
 #[tactic(auto, unfolding(crate::specs::Keys::own_key))]

@@ -1,7 +1,7 @@
 //! What a checked trace's rounds do not do.
 
-ghost use Rattle.std.specs.Prelude.{◌≡◌, ◌≢◌, ◌≤◌, ℕ, List, length, true, Ok, Err, IsSome};
-ghost use Rattle.trace.specs.declared.code.Code.TheVariants as code;
+ghost use Rattle.std.specs.Prelude.{◌≡◌, ◌≢◌, ℕ, List, true, Ok, Err, IsSome};
+ghost use Rattle.input_form.specs.declared.code.Code.TheVariants as code;
 ghost use Rattle.trace.specs.declared.traces.OnOp.{OnOp};
 ghost use Rattle.trace.specs.declared.traces.Trace.{Trace};
 ghost use Rattle.trace.specs.declared.traces.TraceOp.TheVariants as op;
@@ -15,12 +15,12 @@ ghost use Rattle.round_check.specs.Walk.{rounds_of};
 /// In a round of a checked trace no two CPUs name one key, a key that is freed was bound, and a module that is
 /// unloaded is neither entered nor left.
 pub fn rounds_that_passed()
-    ensures keys { (trace : Trace) (ops : List OnOp) (before : Walk) → IsFormedTrace trace → length trace.sections ≤ 65 → rounds_of trace ≡ Ok tt → IsRound trace ops before
+    ensures keys { (trace : Trace) (ops : List OnOp) (before : Walk) → IsFormedTrace trace → rounds_of trace ≡ Ok tt → IsRound trace ops before
         → (one two : OnOp) (at_one at_two : Walk) → IsLine before ops one at_one → IsLine before ops two at_two
         → (key : ℕ) → names_key at_one.keys one.op key ≡ true → names_key at_two.keys two.op key ≡ true → one.cpu ≡ two.cpu }
-    ensures freed { (trace : Trace) (ops : List OnOp) (before : Walk) → IsFormedTrace trace → length trace.sections ≤ 65 → rounds_of trace ≡ Ok tt → IsRound trace ops before
+    ensures freed { (trace : Trace) (ops : List OnOp) (before : Walk) → IsFormedTrace trace → rounds_of trace ≡ Ok tt → IsRound trace ops before
         → (on : OnOp) (here : Walk) → IsLine before ops on here → (key : ℕ) → on.op ≡ op.Free key → IsSome (key_at here.keys key).bound }
-    ensures unloaded { (trace : Trace) (ops : List OnOp) (before : Walk) → IsFormedTrace trace → length trace.sections ≤ 65 → rounds_of trace ≡ Ok tt → IsRound trace ops before
+    ensures unloaded { (trace : Trace) (ops : List OnOp) (before : Walk) → IsFormedTrace trace → rounds_of trace ≡ Ok tt → IsRound trace ops before
         → (one two : OnOp) (at_one at_two : Walk) → IsLine before ops one at_one → IsLine before ops two at_two
         → (section : ℕ) → one.op ≡ op.Unload section → (two.op ≢ op.Enter section) × (two.op ≢ op.Leave section) }
 {}

@@ -1,17 +1,18 @@
 //! The check of a trace's rounds.
 
 ghost use Rattle.std.specs.Prelude.{◌≡◌, ◌+◌, ◌<◌, ◌≤◌, length, All, IfOk};
-ghost use Rattle.trace.specs.Judging.{Leaves, Reads};
+ghost use Rattle.input_form.specs.Judging.{Leaves, Reads};
 ghost use Rattle.trace.specs.Formed.{IsFormedTrace};
 ghost use Rattle.round_check.specs.Formed.{FitsOp, FitsOn, FitsItem};
 ghost use Rattle.round_check.specs.Walk.{start, moved, enter_module, leave_module, unload_module, hook_tag, unhook_tag, load_module, walk_op, walk_ops, walk_item, walk_items, rounds_of, LeavesAll};
 
 use crate::cpus::CpuTable;
-use crate::key_checks::{give_key, need, pages_of, split_key, swap_keys, take_key, trim_key};
+use crate::key_checks::{give_key, pages_of, split_key, swap_keys, take_key, trim_key};
 use crate::keys::{Block, Bound, KeyTable, Turn};
 use crate::modules::ModuleTable;
+use input_form::{Code, LineError, TextError, error_at, need};
 use std::alloc::{AllocError, Global};
-use trace::{Code, Item, LineError, OnOp, TextError, Trace, TraceOp, error_at};
+use trace::{Item, OnOp, Trace, TraceOp};
 
 /// What the lines so far leave, and the number of rounds so far.
 #[derive(Debug, Drop)]
@@ -237,7 +238,6 @@ pub fn check_rounds(alloc: Global, trace: &Trace) -> Result<(), TextError>
     requires { IsFormedTrace trace.now }
     ensures { Reads result (rounds_of trace.now) }
 {
-    let _count = trace.sections.count();
     let mut walk = match start(alloc) {
         Ok(walk) => walk,
         Err(error) => return Err(TextError::Memory(error)),

@@ -1,10 +1,10 @@
 -- What `run` answers to an input: its form comes first, then the check of its rounds, then its meaning.
 use Rattle.std.specs.Prelude.{ℕ, ◌++◌, Option, Result, Ok, Err, List, [], codes, decimal, ⊤}
 use Rattle.tag_section.specs.Section.{names_of}
-use Rattle.trace.specs.declared.code.Code.{Code}
+use Rattle.input_form.specs.declared.code.Code.{Code}
 use Rattle.trace.specs.declared.traces.Trace.{Trace}
-use Rattle.trace.specs.Codes.{code_text}
-use Rattle.trace.specs.Judging.{◌>>=◌}
+use Rattle.input_form.specs.Codes.{code_text}
+use Rattle.input_form.specs.Judging.{◌>>=◌}
 use Rattle.trace.specs.TraceReading.{trace_of}
 use Rattle.round_check.specs.Walk.{rounds_of}
 use Rattle.rounds.specs.Machine.{Machine, fresh_machine}

@@ -9,18 +9,18 @@ use Rattle.tag_section.specs.Section.{Section}
 use Rattle.core_steps.specs.CoreState.{CoreState, IsOpOf, SectionsFitShape, fresh}
 use Rattle.cpu_ops.specs.Machine.{is_new_key}
 use Rattle.core_steps.proofs.Meaning.{core_of_fresh}
-use Rattle.trace.specs.declared.code.Code.{Code}
-use Rattle.trace.specs.declared.steps.StepAct.{StepAct}
-use Rattle.trace.specs.declared.steps.StepAct.TheVariants as step_act
-use Rattle.trace.specs.declared.steps.StepActor.{StepActor}
-use Rattle.trace.specs.declared.steps.StepActor.TheVariants as step_actor
-use Rattle.trace.specs.declared.steps.StepLine.{StepLine}
-use Rattle.trace.specs.declared.steps.StepOp.{StepOp}
-use Rattle.trace.specs.declared.steps.StepOp.TheVariants as step_op
-use Rattle.trace.specs.declared.steps.Steps.{Steps}
-use Rattle.trace.specs.StepForm.{AreSteps, IsStepOp, IsStepAct, IsOwnOp}
+use Rattle.input_form.specs.declared.code.Code.{Code}
+use Rattle.schedule.specs.declared.steps.StepAct.{StepAct}
+use Rattle.schedule.specs.declared.steps.StepAct.TheVariants as step_act
+use Rattle.schedule.specs.declared.steps.StepActor.{StepActor}
+use Rattle.schedule.specs.declared.steps.StepActor.TheVariants as step_actor
+use Rattle.schedule.specs.declared.steps.StepLine.{StepLine}
+use Rattle.schedule.specs.declared.steps.StepOp.{StepOp}
+use Rattle.schedule.specs.declared.steps.StepOp.TheVariants as step_op
+use Rattle.schedule.specs.declared.steps.Steps.{Steps}
+use Rattle.schedule.specs.StepForm.{AreSteps, IsStepOp, IsStepAct, IsOwnOp}
 use Rattle.step_play.specs.Acts.{actor_of, op_of}
-use Rattle.trace.specs.declared.code.TextError.{TextError}
+use Rattle.input_form.specs.declared.code.TextError.{TextError}
 use Rattle.tag_model.specs.declared.shape.Shape.{Shape}
 use Rattle.step_play.specs.Printed.{Setting}
 use Rattle.step_play.specs.declared.schedule.End.TheVariants as end

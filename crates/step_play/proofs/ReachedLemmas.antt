@@ -30,15 +30,15 @@ use Rattle.core_steps.proofs.ManagerRelease.{manager_releases}
 use Rattle.core_steps.proofs.Meaning.{core_of_fresh, moved_after, managed_after}
 use Rattle.core_steps.proofs.Queued.{core_queued}
 use Rattle.core_steps.proofs.Quiet.{quiet_totals}
-use Rattle.trace.specs.declared.code.Code.{Code}
-use Rattle.trace.specs.declared.code.Code.TheVariants as code
-use Rattle.trace.specs.declared.steps.StepAct.{StepAct}
-use Rattle.trace.specs.declared.steps.StepAct.TheVariants as act
-use Rattle.trace.specs.declared.steps.StepActor.TheVariants as step_actor
-use Rattle.trace.specs.declared.steps.StepLine.{StepLine}
-use Rattle.trace.specs.declared.steps.Steps.{Steps}
-use Rattle.trace.specs.Judging.{◌>>=◌, at}
-use Rattle.trace.specs.StepForm.{AreSteps, IsStepAct}
+use Rattle.input_form.specs.declared.code.Code.{Code}
+use Rattle.input_form.specs.declared.code.Code.TheVariants as code
+use Rattle.schedule.specs.declared.steps.StepAct.{StepAct}
+use Rattle.schedule.specs.declared.steps.StepAct.TheVariants as act
+use Rattle.schedule.specs.declared.steps.StepActor.TheVariants as step_actor
+use Rattle.schedule.specs.declared.steps.StepLine.{StepLine}
+use Rattle.schedule.specs.declared.steps.Steps.{Steps}
+use Rattle.input_form.specs.Judging.{◌>>=◌, at}
+use Rattle.schedule.specs.StepForm.{AreSteps, IsStepAct}
 use Rattle.step_play.specs.Acts.{actor_of, op_of}
 use Rattle.step_play.specs.Printed.{Setting, total_moved}
 use Rattle.step_play.specs.Reached.{Reached, IsSetting, IsLineOf, PassesThrough}

@@ -7,11 +7,11 @@ use Rattle.core_steps.specs.declared.op.Op.{Op}
 use Rattle.core_steps.specs.StepsLeft.{steps_left}
 use Rattle.core_steps.specs.CoreState.{CoreState, ops_of}
 use Rattle.std.proofs.lemmas.Bool.Decides.{nat_tests}
-use Rattle.trace.specs.declared.code.Code.{Code}
-use Rattle.trace.specs.Judging.{◌>>=◌, at}
-use Rattle.trace.specs.declared.code.TextError.{TextError}
-use Rattle.trace.specs.declared.code.TextError.TheVariants as text_error
-use Rattle.trace.specs.declared.steps.StepLine.{StepLine}
+use Rattle.input_form.specs.declared.code.Code.{Code}
+use Rattle.input_form.specs.Judging.{◌>>=◌, at}
+use Rattle.input_form.specs.declared.code.TextError.{TextError}
+use Rattle.input_form.specs.declared.code.TextError.TheVariants as text_error
+use Rattle.schedule.specs.declared.steps.StepLine.{StepLine}
 use Rattle.step_play.specs.declared.acts.ActError.{ActError}
 use Rattle.step_play.specs.declared.acts.ActError.TheVariants as error
 use Rattle.step_play.specs.Printed.{Setting}

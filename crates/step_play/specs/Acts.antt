@@ -5,12 +5,12 @@ use Rattle.core_steps.specs.declared.op.Op.{Op}
 use Rattle.core_steps.specs.declared.op.Op.TheVariants as op
 use Rattle.cpu_ops.specs.declared.refused.StepRefused.{StepRefused}
 use Rattle.cpu_ops.specs.declared.refused.StepRefused.TheVariants as refused
-use Rattle.trace.specs.declared.code.Code.{Code}
-use Rattle.trace.specs.declared.code.Code.TheVariants as code
-use Rattle.trace.specs.declared.steps.StepActor.{StepActor}
-use Rattle.trace.specs.declared.steps.StepActor.TheVariants as step_actor
-use Rattle.trace.specs.declared.steps.StepOp.{StepOp}
-use Rattle.trace.specs.declared.steps.StepOp.TheVariants as step_op
+use Rattle.input_form.specs.declared.code.Code.{Code}
+use Rattle.input_form.specs.declared.code.Code.TheVariants as code
+use Rattle.schedule.specs.declared.steps.StepActor.{StepActor}
+use Rattle.schedule.specs.declared.steps.StepActor.TheVariants as step_actor
+use Rattle.schedule.specs.declared.steps.StepOp.{StepOp}
+use Rattle.schedule.specs.declared.steps.StepOp.TheVariants as step_op
 
 abbrev pub actor_of : StepActor → Actor
 actor_of (step_actor.Cpu cpu) = actor.Cpu cpu

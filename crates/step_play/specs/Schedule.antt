@@ -14,13 +14,13 @@ use Rattle.core_steps.specs.CoreState.{CoreState, refused, stepped, event_of, qu
 use Rattle.core_steps.specs.Laws.{moves_of_actor}
 use Rattle.core_steps.specs.Moved.{core_of}
 use Rattle.core_steps.specs.StepsLeft.{steps_left}
-use Rattle.trace.specs.declared.code.Code.{Code}
-use Rattle.trace.specs.declared.code.Code.TheVariants as code
-use Rattle.trace.specs.declared.steps.StepAct.{StepAct}
-use Rattle.trace.specs.declared.steps.StepAct.TheVariants as act
-use Rattle.trace.specs.declared.steps.StepLine.{StepLine}
-use Rattle.trace.specs.declared.steps.Steps.{Steps}
-use Rattle.trace.specs.Judging.{◌>>=◌, at}
+use Rattle.input_form.specs.declared.code.Code.{Code}
+use Rattle.input_form.specs.declared.code.Code.TheVariants as code
+use Rattle.schedule.specs.declared.steps.StepAct.{StepAct}
+use Rattle.schedule.specs.declared.steps.StepAct.TheVariants as act
+use Rattle.schedule.specs.declared.steps.StepLine.{StepLine}
+use Rattle.schedule.specs.declared.steps.Steps.{Steps}
+use Rattle.input_form.specs.Judging.{◌>>=◌, at}
 use Rattle.step_play.specs.Acts.{actor_of, op_of, code_of}
 use Rattle.step_play.specs.Printed.{Setting, allocinfo_text, words_text, event_text}
 

@@ -5,7 +5,7 @@ ghost use Rattle.tag_section.specs.Section.{section_at};
 ghost use Rattle.core_steps.specs.StepsLeft.{steps_left};
 ghost use Rattle.core_steps.specs.CoreState.{IsActor, IsOpOf};
 ghost use Rattle.core_list.specs.ListState.{loaded_entry};
-ghost use Rattle.trace.specs.Judging.{at};
+ghost use Rattle.input_form.specs.Judging.{at};
 ghost use Rattle.step_play.specs.Printed.{Setting};
 ghost use Rattle.step_play.specs.Schedule.{Played, one_step, steps_taken, steps_on, queues_on, act_on, play, module_number, words_of, number_of};
 ghost use Rattle.step_play.specs.Playing.{Shows, Follows, SameSizes, IsAct, IsLine, own_setting, Plays};

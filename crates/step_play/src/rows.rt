@@ -3,7 +3,7 @@
 
 ghost use Rattle.std.specs.Prelude.{◌≡◌, ◌++◌, Ok, Err, codes};
 ghost use Rattle.allocinfo.specs.Text.{header_text};
-ghost use Rattle.trace.specs.declared.code.Code.TheVariants.{NoRoom, AlreadyLoaded};
+ghost use Rattle.input_form.specs.declared.code.Code.TheVariants.{NoRoom, AlreadyLoaded};
 ghost use Rattle.step_play.specs.Rows.{written_by, one_allocation, remote_free_words, split_counts, split_race, free_in_progress, clean_after_kept, range_used_again, loads_twice};
 
 /// The words wrap and the sums don't; a split counts calls.

@@ -2,11 +2,11 @@
 use Rattle.std.proofs.Common.{◌≡◌, ℕ, ◌+◌, ◌-◌, ◌<◌, ◌≤◌, Bool, false, List, [], ◌∷◌, ◌++◌, length, get_or, take, drop, Some, None, position, refl, sym, ap, ◌∙◌, subst, arith}
 use Rattle.std.specs.List.{slice_split, position_or_len, join_with_byte}
 use Rattle.std.proofs.lemmas.Grind.{common_steps}
-use Rattle.std.proofs.lemmas.List.{take-append-drop, take_rest, drop-drop, get_or-take, length-take-le}
+use Rattle.std.proofs.lemmas.List.{get_or-drop, take-append-drop, take_rest, drop-drop, get_or-take, length-take-le}
 use Rattle.std.proofs.lemmas.List.Elements.{All-from_get_or}
 use Rattle.std.proofs.lemmas.List.Quantifiers.{position-Some}
 use Rattle.std.proofs.lemmas.List.Splits.{slice_split_none, slice_split_at, length-slice_split, join_with_byte-slice_split}
-use Rattle.std.proofs.lemmas.List.Sums.{fails_before_first}
+use Rattle.std.proofs.lemmas.List.Sums.{fails_before_first, count_by-le-length}
 use Rattle.text_form.specs.Lines.{is_newline, all_but_last, last_or, lines_of, tail_of}
 use Rattle.text_form.specs.Words.{is_space, words_of}
 
@@ -18,7 +18,8 @@ round bs i h = grind (arith, common_steps, take-append-drop i bs)
 pub behind : (bs back : List ℕ) (i : ℕ) → back ≡ drop i bs → take (length back - 1) (drop 1 back) ≡ drop (i + 1) bs
 behind bs back i e = take_rest back 1 ∙ ap (drop 1) e ∙ drop-drop 1 i bs
 
-none_before : (p : ℕ → Bool) (bs : List ℕ) → position p bs ≡ None → length bs ≤ position_or_len p bs
+-- where none passes, what stands before the first that passes is all
+pub none_before : (p : ℕ → Bool) (bs : List ℕ) → position p bs ≡ None → length bs ≤ position_or_len p bs
 none_before p bs e = grind (arith, common_steps)
 
 pub split_nowhere : (p : ℕ → Bool) (bs : List ℕ) → position p bs ≡ None → slice_split p bs ≡ bs ∷ []
@@ -78,3 +79,15 @@ joined_lines text =
 pub joined_words : (line : List ℕ) → join_with_byte 32 (words_of line) ≡ line
 unfolding words_of
 joined_words line = join_with_byte-slice_split 32 line
+
+-- a line has at most a word more than bytes
+pub few_words : (line : List ℕ) → length (words_of line) ≤ length line + 1
+unfolding words_of
+few_words line = omega (arith, length-slice_split is_space line, count_by-le-length is_space line)
+
+-- a word behind some words, and what is left behind it
+pub word_behind : (words left : List (List ℕ)) (word : List ℕ) (k : ℕ) → left ≡ drop k words → word ≡ get_or left 0 [] → word ≡ get_or words k []
+word_behind words left word k is first = first ∙ ap (λ ws. get_or ws 0 []) is ∙ get_or-drop k words 0 [] ∙ ap (λ n. get_or words n []) (let same : k + 0 ≡ k = omega arith in same)
+
+pub left_behind : (words left after : List (List ℕ)) (k : ℕ) → left ≡ drop k words → after ≡ drop 1 left → after ≡ drop (k + 1) words
+left_behind words left after k is next = next ∙ ap (drop 1) is ∙ drop-drop 1 k words

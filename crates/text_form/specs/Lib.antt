@@ -1,3 +1,5 @@
 pub mod Lines
 pub mod Words
 pub mod Numbers
+pub mod Cut
+pub mod CutWords

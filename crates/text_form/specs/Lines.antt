@@ -1,5 +1,5 @@
 -- The lines of a text. Each is ended by one newline, the byte 10.
-use Rattle.std.specs.Prelude.{ℕ, Bool, List, [], ◌∷◌, ◌==◌, nat_le, ◌&&◌}
+use Rattle.std.specs.Prelude.{ℕ, ◌≤◌, Bool, List, [], ◌∷◌, ◌==◌, nat_le, ◌&&◌, length}
 use Rattle.std.specs.List.{slice_split}
 
 abbrev pub is_newline : ℕ → Bool
@@ -25,3 +25,7 @@ lines_of bytes = all_but_last (slice_split is_newline bytes)
 -- what stands behind the last newline: a line that is cut off, or nothing
 unfoldable pub tail_of : List ℕ → List ℕ
 tail_of bytes = last_or [] (slice_split is_newline bytes)
+
+-- no longer than an input may be
+abbrev pub FitsInput : List ℕ → Type 0
+FitsInput text = length text ≤ 4194304

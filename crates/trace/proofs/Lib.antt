@@ -1,10 +1,2 @@
-pub mod Colons
-pub mod Sections
-pub mod Judged
-pub mod StepFormLines
-pub mod StepFormHead
-pub mod StepForm
-pub mod Binds
-pub mod OpLaws
-pub mod HeadLaws
-pub mod TraceLaws
+pub mod OpForm
+pub mod TraceForm

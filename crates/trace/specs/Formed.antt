@@ -1,23 +1,16 @@
 -- What holds of every trace that the reader gives.
-use Rattle.std.specs.Prelude.{ℕ, ◌<◌, ◌≤◌, ◌≢◌, List, length, All}
-use Rattle.tag_section.specs.Section.{Section, section_at}
+use Rattle.std.specs.Prelude.{ℕ, ◌<◌, ◌≤◌, ◌≢◌, Bool, true, false, List, [], ◌∷◌, length, map, count_by, All}
+use Rattle.std.specs.List.{flat_map}
+use Rattle.tag_section.specs.Section.{Section, AreSections}
+use Rattle.input_form.specs.Forms.{AreLineNumbers}
+use Rattle.input_form.specs.Head.{AreTagged}
+use Rattle.input_form.specs.Places.{IsKey, IsModule, IsTag}
 use Rattle.trace.specs.declared.traces.Item.{Item}
 use Rattle.trace.specs.declared.traces.Item.TheVariants as item
 use Rattle.trace.specs.declared.traces.OnOp.{OnOp}
 use Rattle.trace.specs.declared.traces.TraceOp.{TraceOp}
 use Rattle.trace.specs.declared.traces.TraceOp.TheVariants as op
 use Rattle.trace.specs.declared.traces.Trace.{Trace}
-
-abbrev pub IsKey : ℕ → Type 0
-IsKey key = (1 ≤ key) × (key ≤ 65535)
-
--- a declared module
-abbrev pub IsModule : List Section → ℕ → Type 0
-IsModule sections section = (0 < section) × (section < length sections)
-
--- a tag of a section
-abbrev pub IsTag : List Section → ℕ → ℕ → Type 0
-IsTag sections section index = (section < length sections) × (index < length (section_at sections section).tags)
 
 -- the numbers of an op lie in their ranges
 abbrev pub IsFormedOp : List Section → TraceOp → Type 0
@@ -42,13 +35,38 @@ IsFormedItem cpus sections (item.Load line section) = IsModule sections section
 IsFormedItem cpus sections item.Print = Unit {0}
 IsFormedItem cpus sections item.Areas = Unit {0}
 
--- A trace whose numbers lie in their ranges, whose sections have tags, and whose lines name what is there.
+-- the line numbers of an item; those of `round`, `print` and `areas` aren't kept
+abbrev pub numbers_in : Item → List ℕ
+numbers_in (item.Round ops) = map (λ on. on.line) ops
+numbers_in (item.Load line section) = line ∷ []
+numbers_in item.Print = []
+numbers_in item.Areas = []
+
+-- the line numbers of a body
+abbrev pub numbers_of : List Item → List ℕ
+numbers_of items = flat_map numbers_in items
+
+-- `print` and `areas`
+abbrev pub is_printing : Item → Bool
+is_printing item.Print = true
+is_printing item.Areas = true
+is_printing _ = false
+
+-- how many items print
+abbrev pub prints_of : List Item → ℕ
+prints_of items = count_by is_printing items
+
+-- A trace whose numbers lie in their ranges, whose sections have tags, whose lines name what is there and rise, and
+-- which keeps the limits on lines, sections, tags and prints.
 pub record IsFormedTrace (trace : Trace) : Type 0 where
   pub cpus : (1 ≤ trace.cpus) × (trace.cpus ≤ 64)
   pub area : trace.area ≤ 896
   pub frames : (1 ≤ trace.frames) × (trace.frames ≤ 1024)
   pub vectors : trace.vectors ≤ 64
   pub kernel : 0 < length trace.sections
-  pub tags : All (λ section. 0 < length section.tags) trace.sections
+  pub sections : AreSections trace.sections
+  pub tags : AreTagged trace.sections
   pub items : All (IsFormedItem trace.cpus trace.sections) trace.body
+  pub lines : AreLineNumbers (numbers_of trace.body)
   pub few_items : length trace.body ≤ 131072
+  pub few_prints : prints_of trace.body ≤ 64

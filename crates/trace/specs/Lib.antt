@@ -1,13 +1,3 @@
-pub mod Codes
-pub mod Judging
-pub mod Words
-pub mod Forms
-pub mod Places
-pub mod Head
-pub mod StepWords
-pub mod StepGrammar
-pub mod StepReading
-pub mod StepForm
 pub mod TraceWords
 pub mod TraceGrammar
 pub mod TraceReading

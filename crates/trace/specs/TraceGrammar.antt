@@ -2,17 +2,17 @@
 use Rattle.std.specs.Prelude.{ℕ, ◌==◌, not, List, length, Result, Ok}
 use Rattle.tag_section.specs.Section.{Section}
 use Rattle.text_form.specs.Words.{words_of, word_at}
-use Rattle.trace.specs.declared.code.Code.{Code}
-use Rattle.trace.specs.declared.code.Code.TheVariants as code
+use Rattle.input_form.specs.declared.code.Code.{Code}
+use Rattle.input_form.specs.declared.code.Code.TheVariants as code
 use Rattle.trace.specs.declared.trace_words.OnName.{OnName}
 use Rattle.trace.specs.declared.trace_words.OnName.TheVariants as name
 use Rattle.trace.specs.declared.traces.OnOp.{OnOp}
 use Rattle.trace.specs.declared.traces.TraceOp.{TraceOp}
 use Rattle.trace.specs.declared.traces.TraceOp.TheVariants as op
-use Rattle.trace.specs.Judging.{◌>>=◌, ◌>>◌, need}
-use Rattle.trace.specs.Places.{module_word, tag_word}
+use Rattle.input_form.specs.Judging.{◌>>=◌, ◌>>◌, need}
+use Rattle.input_form.specs.Places.{module_word, tag_word}
 use Rattle.trace.specs.TraceWords.{on_name}
-use Rattle.trace.specs.Words.{number_word, key_word, cpu_word}
+use Rattle.input_form.specs.Words.{number_word, key_word, cpu_word}
 
 -- how many words an `on` line has
 abbrev pub on_words : OnName → ℕ

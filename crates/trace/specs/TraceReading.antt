@@ -1,25 +1,27 @@
 -- How a trace is read: a fold over its lines.
-use Rattle.std.specs.Prelude.{ℕ, ◌+◌, ◌==◌, Bool, true, false, not, ◌||◌, nat_lt, List, [], ◌∷◌, ◌++◌, length, drop, Option, Some, None, is_some, unwrap_or, Result, Ok, Err, codes, if◌then◌else◌}
+use Rattle.std.specs.Prelude.{ℕ, ◌+◌, ◌==◌, Bool, true, false, not, ◌||◌, nat_lt, List, [], ◌∷◌, ◌++◌, length, drop, Option, Some, None, is_some, unwrap_or, Result, Ok, Err, ⊤, codes, if◌then◌else◌}
 use Rattle.text_form.specs.Lines.{lines_of, tail_of}
-use Rattle.text_form.specs.Words.{words_of, word_at, has_empty_word}
-use Rattle.trace.specs.declared.code.Code.{Code}
-use Rattle.trace.specs.declared.code.Code.TheVariants as code
-use Rattle.trace.specs.declared.head.Head.{Head}
-use Rattle.trace.specs.declared.head.Size.TheVariants as size
+use Rattle.text_form.specs.Words.{words_of, word_at}
+use Rattle.input_form.specs.declared.code.Code.{Code}
+use Rattle.input_form.specs.declared.code.Code.TheVariants as code
+use Rattle.input_form.specs.declared.head.Head.{Head}
 use Rattle.trace.specs.declared.trace_reading.TraceReading.{TraceReading}
+use Rattle.trace.specs.declared.trace_words.BodyWord.{BodyWord}
+use Rattle.trace.specs.declared.trace_words.BodyWord.TheVariants as body
 use Rattle.trace.specs.declared.trace_words.TraceKeyword.{TraceKeyword}
 use Rattle.trace.specs.declared.trace_words.TraceKeyword.TheVariants as keyword
 use Rattle.trace.specs.declared.traces.Item.{Item}
 use Rattle.trace.specs.declared.traces.Item.TheVariants as item
 use Rattle.trace.specs.declared.traces.OnOp.{OnOp}
 use Rattle.trace.specs.declared.traces.Trace.{Trace}
-use Rattle.trace.specs.Forms.{line_form, tail_form, is_skipped, first_line}
-use Rattle.trace.specs.Head.{empty_head, cpus_of, size_line, kernel_line, section_form, module_line, tag_line}
-use Rattle.trace.specs.Judging.{◌>>=◌, ◌>>◌, need, at}
-use Rattle.trace.specs.Places.{module_word}
+use Rattle.input_form.specs.Forms.{first_line}
+use Rattle.input_form.specs.Head.{empty_head, cpus_of, head_line, section_form}
+use Rattle.input_form.specs.Judging.{◌>>=◌, ◌>>◌, need, at}
+use Rattle.input_form.specs.Places.{module_word}
 use Rattle.trace.specs.TraceGrammar.{on_line}
 use Rattle.trace.specs.TraceWords.{trace_keyword}
-use Rattle.trace.specs.Words.{is_word}
+use Rattle.input_form.specs.Reading.{judged_lines}
+use Rattle.input_form.specs.Words.{is_word}
 
 -- before the second line
 abbrev pub empty_reading : TraceReading
@@ -59,57 +61,48 @@ with_op op reading = record reading { round = op_more op reading.round }
 abbrev pub in_body : TraceReading → Bool
 in_body reading = not (length reading.items == 0) || is_some reading.round
 
-unfoldable pub keyword_line : TraceKeyword → ℕ → List ℕ → TraceReading → Result TraceReading Code
-keyword_line keyword.Cpus number line reading = with_head reading (size_line size.Cpus line reading.head)
-keyword_line keyword.Area number line reading = with_head reading (size_line size.Area line reading.head)
-keyword_line keyword.Frames number line reading = with_head reading (size_line size.Frames line reading.head)
-keyword_line keyword.Vectors number line reading = with_head reading (size_line size.Vectors line reading.head)
-keyword_line keyword.Kernel number line reading = with_head reading (kernel_line line reading.head)
-keyword_line keyword.Module number line reading = with_head reading (module_line (in_body reading) line reading.head)
-keyword_line keyword.Tag number line reading = with_head reading (tag_line (in_body reading) line reading.head)
-keyword_line keyword.Load number line reading = do
-  section_form reading.head.sections
+-- `print` and `areas`
+unfoldable pub print_line : Item → List ℕ → TraceReading → Result TraceReading Code
+print_line new line reading = do
+  need (length (words_of line) == 1) code.Word
+  need (nat_lt reading.prints 64) code.Prints
+  Ok (with_print new reading)
+
+-- what a body line says, by its first word
+abbrev pub body_words : BodyWord → ℕ → List ℕ → TraceReading → Result TraceReading Code
+body_words body.Load number line reading = do
   need (length (words_of line) == 2) code.Word
   section ← module_word reading.head.sections (word_at line 1)
   Ok (with_item (item.Load number section) reading)
-keyword_line keyword.Round number line reading = do
-  section_form reading.head.sections
+body_words body.Round number line reading = do
   need (length (words_of line) == 1) code.Word
   Ok (with_round reading)
-keyword_line keyword.Print number line reading = do
-  section_form reading.head.sections
-  need (length (words_of line) == 1) code.Word
-  need (nat_lt reading.prints 64) code.Prints
-  Ok (with_print item.Print reading)
-keyword_line keyword.Areas number line reading = do
-  section_form reading.head.sections
-  need (length (words_of line) == 1) code.Word
-  need (nat_lt reading.prints 64) code.Prints
-  Ok (with_print item.Areas reading)
-keyword_line keyword.On number line reading = do
-  section_form reading.head.sections
+body_words body.Print number line reading = print_line item.Print line reading
+body_words body.Areas number line reading = print_line item.Areas line reading
+body_words body.On number line reading = do
   need (is_some reading.round) code.NoRound
   op ← on_line (cpus_of reading.head) reading.head.sections number line
   Ok (with_op op reading)
 
--- a line from the second on
-unfoldable pub trace_line : ℕ → List ℕ → TraceReading → Result TraceReading Code
-trace_line number line reading = do
-  line_form number line
-  if is_skipped line then Ok reading else do
-    need (not (has_empty_word line)) code.Word
-    keyword ← trace_keyword (word_at line 0)
-    keyword_line keyword number line reading
-
--- the lines from a number on, then what stands behind the last newline, then the end
-abbrev pub trace_lines : ℕ → List (List ℕ) → List ℕ → TraceReading → Result TraceReading (ℕ × Code)
-trace_lines number [] tail reading = at number (do
-  tail_form number tail
+-- a body line, by its first word
+unfoldable pub body_line : BodyWord → ℕ → List ℕ → TraceReading → Result TraceReading Code
+body_line word number line reading = do
   section_form reading.head.sections
-  Ok reading)
-trace_lines number (line ∷ lines) tail reading = do
-  new ← at number (trace_line number line reading)
-  trace_lines (number + 1) lines tail new
+  body_words word number line reading
+
+abbrev pub keyword_line : TraceKeyword → ℕ → List ℕ → TraceReading → Result TraceReading Code
+keyword_line (keyword.Head which) number line reading = with_head reading (head_line which (in_body reading) line reading.head)
+keyword_line (keyword.Body word) number line reading = body_line word number line reading
+
+-- a line, by its words
+unfoldable pub word_line : ℕ → List ℕ → TraceReading → Result TraceReading Code
+word_line number line reading = do
+  keyword ← trace_keyword (word_at line 0)
+  keyword_line keyword number line reading
+
+-- whether the input may end here
+abbrev pub ending : TraceReading → Result ⊤ Code
+ending reading = section_form reading.head.sections
 
 -- whether kept ranges are shown, by the header's version
 unfoldable pub trace_header : List ℕ → Result Bool Code
@@ -135,5 +128,5 @@ unfoldable pub trace_of : List ℕ → Result Trace (ℕ × Code)
 trace_of text = do
   header ← at 1 (first_line (lines_of text) (tail_of text))
   shows_kept ← at 1 (trace_header header)
-  reading ← trace_lines 2 (drop 1 (lines_of text)) (tail_of text) empty_reading
+  reading ← judged_lines word_line ending 2 (drop 1 (lines_of text)) (tail_of text) empty_reading
   Ok (trace_from shows_kept reading)

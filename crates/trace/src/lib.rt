@@ -1,29 +1,17 @@
-//! The reader of both input languages.
+//! The trace language: a trace, and how it is read. The readers of both languages stand here.
 #![tactic(auto)]
 
-mod code;
-mod forms;
-mod head;
 mod laws;
-mod line_error;
-mod places;
-mod step_lines;
-mod step_reading;
-mod step_words;
-mod steps;
-mod text_error;
 mod trace_lines;
 mod trace_reading;
 mod trace_words;
 mod traces;
-mod words;
 
-pub use code::{Code, TextError};
+pub use input_form::{Code, LineError, TextError, error_at};
 pub use laws::traces_are_formed;
-pub use line_error::LineError;
-pub use step_reading::read_steps;
-pub use steps::{StepAct, StepActor, StepLine, StepLines, StepOp, Steps};
-pub use text_error::error_at;
+pub use schedule::{
+    StepAct, StepActor, StepLine, StepLines, StepOp, Steps, read_steps, steps_are_formed,
+};
 pub use trace_reading::read_trace;
 pub use traces::{Item, Items, OnOp, OnOps, Trace, TraceOp};
 

@@ -1,118 +1,17 @@
-ghost use Rattle.std.specs.Prelude.{◌≤◌, length};
-
 use super::*;
 use std::alloc::Global;
 use std::test::Fail;
-use tag_section::Sections;
 
-fn step_refusal(alloc: Global, text: &[u8]) -> Option<(u32, Code)>
-    requires { length text.now ≤ 4194304 }
-{
-    match read_steps(alloc, text) {
-        Err(TextError::Refused { line, code }) => Some((line, code)),
-        _ => None,
+// What is refused. A text that is read shows as line 0.
+fn verdict(alloc: Global, text: &[u8]) -> Option<(u32, Code)> {
+    if text.len() > 4_194_304 {
+        return None;
     }
-}
-
-fn trace_refusal(alloc: Global, text: &[u8]) -> Option<(u32, Code)>
-    requires { length text.now ≤ 4194304 }
-{
     match read_trace(alloc, text) {
+        Ok(_) => Some((0, Code::Lines)),
         Err(TextError::Refused { line, code }) => Some((line, code)),
-        _ => None,
+        Err(TextError::Memory(_)) => None,
     }
-}
-
-#[test]
-fn a_schedule(rt: HostRuntime) -> Result<(), Fail> {
-    let text =
-        b"memprof-steps 1.0\n# two\ncpus 2\n\nkernel\ntag mm/a.c 10 fa\nmodule ext\ntag m/x.c 5 fx\n\
-        do 1 open 7 ext:0 64\ndo m load ext\ngo 1 all\nprint\nwords kernel:0\n";
-    let steps = read_steps(rt.alloc(), text)?;
-    assert_eq!(rt; steps.cpus, 2);
-    assert_eq!(rt; steps.area, 896);
-    assert_eq!(rt; steps.sections.count(), 2);
-    let body = steps.body.as_slice();
-    assert_eq!(rt; body.len(), 5);
-    let op = StepOp::Open {
-        key: 7,
-        section: 1,
-        index: 0,
-        size: 64,
-    };
-    let actor = StepActor::Cpu(1);
-    assert_eq!(rt;
-        body[0],
-        StepLine {
-            line: 9,
-            act: StepAct::Do { actor, op }
-        }
-    );
-    let op = StepOp::Load { section: 1 };
-    assert_eq!(rt;
-        body[1].act,
-        StepAct::Do {
-            actor: StepActor::Manager,
-            op
-        }
-    );
-    assert_eq!(rt; body[2].act, StepAct::Go { actor, count: None });
-    assert_eq!(rt; body[3].act, StepAct::Print);
-    assert_eq!(rt;
-        body[4],
-        StepLine {
-            line: 13,
-            act: StepAct::Words {
-                section: 0,
-                index: 0
-            }
-        }
-    );
-    Ok(())
-}
-
-#[test]
-fn refused_schedules(rt: HostRuntime) {
-    let alloc = rt.alloc();
-    assert_eq!(rt; step_refusal(alloc, b""), Some((1, Code::Header)));
-    assert_eq!(rt;
-        step_refusal(alloc, b"memprof-steps 1.0"),
-        Some((1, Code::Cut))
-    );
-    assert_eq!(rt;
-        step_refusal(alloc, b"memprof-trace 1.1\n"),
-        Some((1, Code::Header))
-    );
-    assert_eq!(rt;
-        step_refusal(alloc, b"memprof-steps 1.0\n"),
-        Some((2, Code::Order))
-    );
-    assert_eq!(rt;
-        step_refusal(alloc, b"memprof-steps 1.0\nkernel\n"),
-        Some((3, Code::Empty))
-    );
-    assert_eq!(rt;
-        step_refusal(alloc, b"memprof-steps 1.0\ncpus 65\n"),
-        Some((2, Code::Number))
-    );
-    assert_eq!(rt;
-        step_refusal(alloc, b"memprof-steps 1.0\nkernel\nkernel\n"),
-        Some((3, Code::Order))
-    );
-    assert_eq!(rt;
-        step_refusal(alloc, b"memprof-steps 1.0\ncpus 1\ncpus\n"),
-        Some((3, Code::Repeat))
-    );
-    let line = b"memprof-steps 1.0\nkernel\ntag mm/a.c 10 fa\ndo 9 load zzz\n";
-    assert_eq!(rt; step_refusal(alloc, line), Some((4, Code::Cpu)));
-    let line = b"memprof-steps 1.0\nkernel\ntag mm/a.c 10 fa\ndo 0 load zzz\n";
-    assert_eq!(rt; step_refusal(alloc, line), Some((4, Code::Word)));
-    let line = b"memprof-steps 1.0\nkernel\ntag mm/a.c 10 fa\ndo m load kernel\n";
-    assert_eq!(rt; step_refusal(alloc, line), Some((4, Code::Module)));
-    let line = b"memprof-steps 1.0\nkernel\ntag mm/a.c 10 fa\ndo 0 split 3 4 1\n";
-    assert_eq!(rt; step_refusal(alloc, line), Some((4, Code::Keys)));
-    let line = b"memprof-steps 1.0\nkernel\ntag mm/a.c 10 fa\ngo 0 1048577\n";
-    assert_eq!(rt; step_refusal(alloc, line), Some((4, Code::Number)));
 }
 
 #[test]
@@ -157,43 +56,54 @@ fn a_trace(rt: HostRuntime) -> Result<(), Fail> {
 }
 
 #[test]
-fn refused_traces(rt: HostRuntime) {
-    let alloc = rt.alloc();
-    assert_eq!(rt;
-        trace_refusal(alloc, b"memprof-trace 1.2\n"),
-        Some((1, Code::Header))
-    );
-    assert_eq!(rt;
-        trace_refusal(alloc, b"memprof-trace 1.0\nmemprof-trace 1.0\n"),
-        Some((2, Code::Word))
-    );
-    let line = b"memprof-trace 1.0\nkernel\ntag mm/slub.c 1 slab\non 9\n";
-    assert_eq!(rt; trace_refusal(alloc, line), Some((4, Code::NoRound)));
-    let line = b"memprof-trace 1.0\nkernel\ntag mm/slub.c 1 slab\nround\non 9 free\n";
-    assert_eq!(rt; trace_refusal(alloc, line), Some((5, Code::Word)));
-    let line = b"memprof-trace 1.0\nkernel\ntag mm/slub.c 1 slab\nround\nprint\non 0 free 1\n";
-    assert_eq!(rt; trace_refusal(alloc, line), Some((6, Code::NoRound)));
-    let line = b"memprof-trace 1.0\nkernel\ntag mm/slub.c 1 slab\nround\non 4 swap 2 2\n";
-    assert_eq!(rt; trace_refusal(alloc, line), Some((5, Code::Cpu)));
-    let line = b"memprof-trace 1.0\nkernel\ntag mm/slub.c 1 slab\nround\non 3 swap 2 2\n";
-    assert_eq!(rt; trace_refusal(alloc, line), Some((5, Code::Same)));
+fn refused_heads(rt: HostRuntime) {
+    let cases: [(&[u8], (u32, Code)); 2] = [
+        (b"memprof-trace 1.2\n", (1, Code::Header)),
+        (b"memprof-trace 1.0\nmemprof-trace 1.0\n", (2, Code::Word)),
+    ];
+    for (text, wanted) in cases {
+        assert_eq!(rt; verdict(rt.alloc(), text), Some(wanted));
+    }
 }
 
+// The body begins at line 4.
+const HEAD: &[u8] = b"memprof-trace 1.0\nkernel\ntag mm/slub.c 1 slab\n";
+
 #[test]
-fn texts_of_codes(rt: HostRuntime) -> Result<(), Fail> {
-    let mut sections = Sections::new(rt.alloc());
-    let _kernel = sections.begin(b"kernel")?;
-    let mut out = Vec::new(rt.alloc());
-    if sections.count() == 1 {
-        Code::NoRound.to_text(&sections, &mut out)?;
-        out.push(b'/')?;
-        Code::SharedKey(65535).to_text(&sections, &mut out)?;
-        out.push(b'/')?;
-        Code::NotInside(0).to_text(&sections, &mut out)?;
+fn bodies(rt: HostRuntime) -> Result<(), Fail> {
+    let cases: [(&[u8], (u32, Code)); 9] = [
+        (b"on 9\n", (4, Code::NoRound)),
+        (b"round\non 9 free\n", (5, Code::Word)),
+        (b"round\nprint\non 0 free 1\n", (6, Code::NoRound)),
+        (b"round\non 4 swap 2 2\n", (5, Code::Cpu)),
+        (b"round\non 3 swap 2 2\n", (5, Code::Same)),
+        (b"load kernel\n", (4, Code::Module)),
+        (b"round\n\non 0 page 65535 10\n", (0, Code::Lines)),
+        (b"round\non 0 page 1 11\n", (5, Code::Number)),
+        (b"round\ntag mm/slub.c 2 slab\n", (5, Code::Order)),
+    ];
+    for (body, wanted) in cases {
+        let mut text = Vec::from_slice(rt.alloc(), HEAD)?;
+        text.extend_from_slice(body)?;
+        assert_eq!(rt; verdict(rt.alloc(), &text), Some(wanted));
     }
-    assert_eq!(rt;
-        out.as_slice(),
-        b"no-round/shared-key 65535/not-inside kernel".as_slice()
-    );
+    Ok(())
+}
+
+// As many lines as an input may have, and one more. Of these, 64 print.
+#[test]
+fn the_most_lines(rt: HostRuntime) -> Result<(), Fail> {
+    let mut text = Vec::from_slice(rt.alloc(), HEAD)?;
+    for number in 3..131_072 {
+        text.extend_from_slice(if number < 67 { b"print\n" } else { b"round\n" })?;
+    }
+    assert_eq!(rt; verdict(rt.alloc(), &text), Some((0, Code::Lines)));
+    text.extend_from_slice(b"print")?;
+    assert_eq!(rt; verdict(rt.alloc(), &text), Some((131_073, Code::Lines)));
+    let mut text = Vec::from_slice(rt.alloc(), HEAD)?;
+    for _ in 3..68 {
+        text.extend_from_slice(b"print\n")?;
+    }
+    assert_eq!(rt; verdict(rt.alloc(), &text), Some((68, Code::Prints)));
     Ok(())
 }

@@ -3,13 +3,11 @@
 ghost use Rattle.std.specs.Prelude.{◌≡◌};
 ghost use Rattle.trace.specs.TraceGrammar.{on_words, trace_op, on_line};
 
-use crate::code::Code;
-use crate::places::{module_word, tag_word};
 use crate::trace_words::{OnName, on_name};
 use crate::traces::{OnOp, TraceOp};
-use crate::words::{cpu_word, key_word, need, number_word, size_word};
+use input_form::{Code, cpu_word, key_word, module_word, need, number_word, size_word, tag_word};
 use tag_section::Sections;
-use text_form::{word_at, word_count};
+use text_form::LineWords;
 
 // How many words an `on` line has.
 fn on_words(name: OnName) -> usize
@@ -25,56 +23,56 @@ fn on_words(name: OnName) -> usize
 
 // The words of an op from the fourth on.
 #[tactic(auto, unfolding(crate::specs::TraceGrammar::trace_op))]
-fn trace_op(sections: &Sections, name: OnName, line: &[u8]) -> Result<TraceOp, Code>
+fn trace_op(sections: &Sections, name: OnName, line: &LineWords<'_>) -> Result<TraceOp, Code>
     ensures { result ≡ trace_op sections.now name line.now }
 {
     match name {
         OnName::Page => {
-            let key = key_word(word_at(line, 3))?;
-            let order = number_word(word_at(line, 4), 0, 10)?;
+            let key = key_word(line.at(3))?;
+            let order = number_word(line.at(4), 0, 10)?;
             Ok(TraceOp::Page { key, order })
         }
         OnName::Kmalloc => {
-            let key = key_word(word_at(line, 3))?;
-            let size = size_word(word_at(line, 4), 1, 4_194_304)?;
+            let key = key_word(line.at(3))?;
+            let size = size_word(line.at(4), 1, 4_194_304)?;
             Ok(TraceOp::Kmalloc { key, size })
         }
         OnName::Free => {
-            let key = key_word(word_at(line, 3))?;
+            let key = key_word(line.at(3))?;
             Ok(TraceOp::Free { key })
         }
         OnName::Split => {
-            let key = key_word(word_at(line, 3))?;
-            let order = number_word(word_at(line, 4), 0, 9)?;
-            let first = key_word(word_at(line, 5))?;
+            let key = key_word(line.at(3))?;
+            let order = number_word(line.at(4), 0, 9)?;
+            let first = key_word(line.at(5))?;
             Ok(TraceOp::Split { key, order, first })
         }
         OnName::Swap => {
-            let one = key_word(word_at(line, 3))?;
-            let two = key_word(word_at(line, 4))?;
+            let one = key_word(line.at(3))?;
+            let two = key_word(line.at(4))?;
             need(one != two, Code::Same)?;
             Ok(TraceOp::Swap { one, two })
         }
         OnName::Trim => {
-            let key = key_word(word_at(line, 3))?;
-            let pages = number_word(word_at(line, 4), 1, 1023)?;
+            let key = key_word(line.at(3))?;
+            let pages = number_word(line.at(4), 1, 1023)?;
             Ok(TraceOp::Trim { key, pages })
         }
         OnName::Hook => {
-            let (section, index) = tag_word(sections, word_at(line, 3))?;
+            let (section, index) = tag_word(sections, line.at(3))?;
             Ok(TraceOp::Hook { section, index })
         }
         OnName::Unhook => Ok(TraceOp::Unhook),
         OnName::Enter => {
-            let section = module_word(sections, word_at(line, 3))?;
+            let section = module_word(sections, line.at(3))?;
             Ok(TraceOp::Enter { section })
         }
         OnName::Leave => {
-            let section = module_word(sections, word_at(line, 3))?;
+            let section = module_word(sections, line.at(3))?;
             Ok(TraceOp::Leave { section })
         }
         OnName::Unload => {
-            let section = module_word(sections, word_at(line, 3))?;
+            let section = module_word(sections, line.at(3))?;
             Ok(TraceOp::Unload { section })
         }
     }
@@ -86,13 +84,13 @@ pub(crate) fn on_line(
     cpus: u32,
     sections: &Sections,
     number: u32,
-    line: &[u8],
+    line: &LineWords<'_>,
 ) -> Result<OnOp, Code>
     ensures { result ≡ on_line cpus sections.now number line.now }
 {
-    let name = on_name(word_at(line, 2))?;
-    need(word_count(line) == on_words(name), Code::Word)?;
-    let cpu = cpu_word(word_at(line, 1), cpus)?;
+    let name = on_name(line.at(2))?;
+    need(line.count() == on_words(name), Code::Word)?;
+    let cpu = cpu_word(line.at(1), cpus)?;
     let op = trace_op(sections, name, line)?;
     Ok(OnOp {
         line: number,

@@ -1,25 +1,21 @@
 //! How a trace is read.
 
-ghost use Rattle.std.specs.Prelude.{◌≡◌, ◌<◌, ◌≤◌, length, IfOk, OnOk};
-ghost use Rattle.text_form.specs.Lines.{lines_of, tail_of};
+ghost use Rattle.std.specs.Prelude.{◌≡◌, ◌<◌, IfOk, OnOk};
+ghost use Rattle.text_form.specs.Lines.{FitsInput};
 ghost use Rattle.trace.specs.Formed.{IsFormedTrace};
-ghost use Rattle.trace.specs.Judging.{Leaves, Reads};
-ghost use Rattle.trace.specs.TraceReading.{empty_reading, closed, in_body, keyword_line, trace_line, trace_lines, trace_header, trace_from, trace_of, with_item, with_op, with_print, with_round};
+ghost use Rattle.input_form.specs.Judging.{Leaves, Reads};
+ghost use Rattle.trace.specs.declared.trace_words.BodyWord.TheVariants.{Load};
+ghost use Rattle.trace.specs.TraceReading.{body_line, body_words, empty_reading, ending, closed, in_body, print_line, trace_header, trace_from, trace_of, with_item, with_op, with_print, with_round, word_line};
 
-use crate::code::{Code, TextError};
-use crate::forms::{first_line, is_skipped, line_form, tail_form};
-use crate::head::{
-    Head, Size, cpus_of, empty_head, kernel_line, module_line, section_form, size_line, tag_line,
-};
-use crate::line_error::LineError;
-use crate::places::module_word;
-use crate::text_error::error_at;
 use crate::trace_lines::on_line;
-use crate::trace_words::{TraceKeyword, trace_keyword};
+use crate::trace_words::{BodyWord, TraceKeyword, trace_keyword};
 use crate::traces::{Item, Items, OnOp, OnOps, Trace};
-use crate::words::{is_word, need};
+use input_form::{
+    Code, Head, LineError, Reading, TextError, cpus_of, empty_head, first_line, head_line, is_word,
+    module_word, need, read_lines, section_form,
+};
 use std::alloc::{AllocError, Global};
-use text_form::{has_empty_word, next_line, word_at, word_count};
+use text_form::LineWords;
 
 /// The most lines that print.
 const PRINT_LIMIT: u32 = 64;
@@ -93,115 +89,95 @@ fn with_op(reading: &mut TraceReading, op: OnOp) -> Result<(), AllocError>
     }
 }
 
-// A line, by its first word.
-#[tactic(auto, unfolding(crate::specs::TraceReading::keyword_line))]
-fn keyword_line(
+// `print` and `areas`
+#[tactic(auto, unfolding(crate::specs::TraceReading::print_line))]
+fn print_line(reading: &mut TraceReading, item: Item, line: &LineWords<'_>) -> Result<(), LineError>
+    ensures { Leaves result reading.new (print_line item line.now reading.old) }
+{
+    need(line.count() == 1, Code::Word)?;
+    need(reading.prints < PRINT_LIMIT, Code::Prints)?;
+    with_print(reading, item)?;
+    Ok(())
+}
+
+// `load MODULE`
+fn load_line(reading: &mut TraceReading, number: u32, line: &LineWords<'_>) -> Result<(), LineError>
+    ensures { Leaves result reading.new (body_words Load number line.now reading.old) }
+{
+    need(line.count() == 2, Code::Word)?;
+    let section = module_word(&reading.head.sections, line.at(1))?;
+    let line = number;
+    with_item(reading, Item::Load { line, section })?;
+    Ok(())
+}
+
+// A body line, by its first word.
+#[tactic(auto, unfolding(crate::specs::TraceReading::body_line, crate::specs::TraceReading::print_line))]
+fn body_line(
     alloc: Global,
     reading: &mut TraceReading,
-    keyword: TraceKeyword,
+    word: BodyWord,
     number: u32,
-    line: &[u8],
+    line: &LineWords<'_>,
 ) -> Result<(), LineError>
-    ensures { Leaves result reading.new (keyword_line keyword number line.now reading.old) }
+    ensures { Leaves result reading.new (body_line word number line.now reading.old) }
 {
-    match keyword {
-        TraceKeyword::Cpus => size_line(&mut reading.head, Size::Cpus, line),
-        TraceKeyword::Area => size_line(&mut reading.head, Size::Area, line),
-        TraceKeyword::Frames => size_line(&mut reading.head, Size::Frames, line),
-        TraceKeyword::Vectors => size_line(&mut reading.head, Size::Vectors, line),
-        TraceKeyword::Kernel => kernel_line(&mut reading.head, line),
-        TraceKeyword::Module => {
-            let in_body = in_body(reading);
-            module_line(&mut reading.head, in_body, line)
-        }
-        TraceKeyword::Tag => {
-            let in_body = in_body(reading);
-            tag_line(alloc, &mut reading.head, in_body, line)
-        }
-        TraceKeyword::Load => {
-            section_form(&reading.head.sections)?;
-            need(word_count(line) == 2, Code::Word)?;
-            let section = module_word(&reading.head.sections, word_at(line, 1))?;
-            with_item(
-                reading,
-                Item::Load {
-                    line: number,
-                    section,
-                },
-            )?;
-            Ok(())
-        }
-        TraceKeyword::Round => {
-            section_form(&reading.head.sections)?;
-            need(word_count(line) == 1, Code::Word)?;
-            with_round(alloc, reading)?;
-            Ok(())
-        }
-        TraceKeyword::Print => {
-            section_form(&reading.head.sections)?;
-            need(word_count(line) == 1, Code::Word)?;
-            need(reading.prints < PRINT_LIMIT, Code::Prints)?;
-            with_print(reading, Item::Print)?;
-            Ok(())
-        }
-        TraceKeyword::Areas => {
-            section_form(&reading.head.sections)?;
-            need(word_count(line) == 1, Code::Word)?;
-            need(reading.prints < PRINT_LIMIT, Code::Prints)?;
-            with_print(reading, Item::Areas)?;
-            Ok(())
-        }
-        TraceKeyword::On => {
-            section_form(&reading.head.sections)?;
+    section_form(&reading.head.sections)?;
+    match word {
+        BodyWord::On => {
             need(reading.round.is_some(), Code::NoRound)?;
             let op = on_line(cpus_of(&reading.head), &reading.head.sections, number, line)?;
             with_op(reading, op)?;
             Ok(())
         }
+        BodyWord::Round => {
+            need(line.count() == 1, Code::Word)?;
+            with_round(alloc, reading)?;
+            Ok(())
+        }
+        BodyWord::Load => load_line(reading, number, line),
+        BodyWord::Print => print_line(reading, Item::Print, line),
+        BodyWord::Areas => print_line(reading, Item::Areas, line),
     }
 }
 
-// A line from the second on.
-#[tactic(auto, unfolding(crate::specs::TraceReading::trace_line))]
-fn trace_line(
+// A line, by its words.
+#[tactic(auto, unfolding(crate::specs::TraceReading::word_line))]
+fn word_line(
     alloc: Global,
     reading: &mut TraceReading,
     number: u32,
-    line: &[u8],
+    line: &LineWords<'_>,
 ) -> Result<(), LineError>
-    ensures { Leaves result reading.new (trace_line number line.now reading.old) }
+    ensures { Leaves result reading.new (word_line number line.now reading.old) }
 {
-    line_form(number, line)?;
-    if is_skipped(line) {
-        return Ok(());
+    let keyword = trace_keyword(line.at(0))?;
+    match keyword {
+        TraceKeyword::Head(which) => {
+            let in_body = in_body(reading);
+            head_line(alloc, &mut reading.head, which, in_body, line)
+        }
+        TraceKeyword::Body(word) => body_line(alloc, reading, word, number, line),
     }
-    need(!has_empty_word(line), Code::Word)?;
-    let keyword = trace_keyword(word_at(line, 0))?;
-    keyword_line(alloc, reading, keyword, number, line)
 }
 
-// All lines from the second on, and the end.
-fn trace_lines(alloc: Global, text: &[u8]) -> Result<TraceReading, TextError>
-    requires { length text.now ≤ 4194304 }
-    ensures { Reads result (trace_lines 2 (lines_of text.now) (tail_of text.now) empty_reading) }
-{
-    let mut reading = empty_reading(alloc);
-    let mut rest = text;
-    let mut number: u32 = 2;
-    while let Some((line, after)) = next_line(rest) {
-        if let Err(error) = trace_line(alloc, &mut reading, number, line) {
-            return Err(error_at(number, error));
-        }
-        rest = after;
-        number += 1;
+impl Reading for TraceReading {
+    ghost says = { word_line };
+
+    ghost ends = { ending };
+
+    fn read_line(
+        &mut self,
+        alloc: Global,
+        number: u32,
+        line: &LineWords<'_>,
+    ) -> Result<(), LineError> {
+        word_line(alloc, self, number, line)
     }
-    if let Err(code) = tail_form(number, rest) {
-        return Err(TextError::Refused { line: number, code });
+
+    fn end(&self) -> Result<(), Code> {
+        section_form(&self.head.sections)
     }
-    if let Err(code) = section_form(&reading.head.sections) {
-        return Err(TextError::Refused { line: number, code });
-    }
-    Ok(reading)
 }
 
 // Whether kept ranges are shown, by the header's version.
@@ -237,7 +213,7 @@ fn trace_from(shows_kept: bool, reading: TraceReading) -> Result<Trace, AllocErr
 // The trace that a text spells.
 #[tactic(auto, unfolding(crate::specs::TraceReading::trace_of))]
 fn whole_trace(alloc: Global, text: &[u8]) -> Result<Trace, TextError>
-    requires { length text.now ≤ 4194304 }
+    requires { FitsInput text.now }
     ensures { Reads result (trace_of text.now) }
 {
     let (header, rest) = match first_line(text) {
@@ -248,7 +224,7 @@ fn whole_trace(alloc: Global, text: &[u8]) -> Result<Trace, TextError>
         Ok(shows_kept) => shows_kept,
         Err(code) => return Err(TextError::Refused { line: 1, code }),
     };
-    let reading = trace_lines(alloc, rest)?;
+    let reading = read_lines(alloc, rest, empty_reading(alloc))?;
     match trace_from(shows_kept, reading) {
         Ok(trace) => Ok(trace),
         Err(error) => Err(TextError::Memory(error)),
@@ -257,7 +233,7 @@ fn whole_trace(alloc: Global, text: &[u8]) -> Result<Trace, TextError>
 
 /// The trace that a text spells, which is formed, or the first line that fails with its code.
 pub fn read_trace(alloc: Global, text: &[u8]) -> Result<Trace, TextError>
-    requires { length text.now ≤ 4194304 }
+    requires { FitsInput text.now }
     ensures judged { Reads result (trace_of text.now) }
     ensures formed { IfOk result (λ trace. IsFormedTrace trace) }
 {

@@ -3,24 +3,23 @@
 ghost use Rattle.std.specs.Prelude.{◌≡◌};
 ghost use Rattle.trace.specs.TraceWords.{trace_keyword, on_name};
 
-use crate::code::Code;
-use crate::words::is_word;
+use input_form::{Code, HeadWord, Size, is_word};
 
 /// The first word of a line.
 #[derive(Clone, Copy, Debug, PartialEq, Eq)]
 pub(crate) enum TraceKeyword {
-    Cpus,
-    Area,
-    Frames,
-    Vectors,
-    Kernel,
-    Module,
-    Tag,
-    Load,
+    Head(HeadWord),
+    Body(BodyWord),
+}
+
+/// The first word of a body line.
+#[derive(Clone, Copy, Debug, PartialEq, Eq)]
+pub(crate) enum BodyWord {
+    On,
     Round,
+    Load,
     Print,
     Areas,
-    On,
 }
 
 /// The third word of an `on` line.
@@ -43,30 +42,30 @@ pub(crate) enum OnName {
 pub(crate) fn trace_keyword(word: &[u8]) -> Result<TraceKeyword, Code>
     ensures { result ≡ trace_keyword word.now }
 {
-    if is_word(word, b"cpus") {
-        Ok(TraceKeyword::Cpus)
-    } else if is_word(word, b"area") {
-        Ok(TraceKeyword::Area)
-    } else if is_word(word, b"frames") {
-        Ok(TraceKeyword::Frames)
-    } else if is_word(word, b"vectors") {
-        Ok(TraceKeyword::Vectors)
-    } else if is_word(word, b"kernel") {
-        Ok(TraceKeyword::Kernel)
-    } else if is_word(word, b"module") {
-        Ok(TraceKeyword::Module)
-    } else if is_word(word, b"tag") {
-        Ok(TraceKeyword::Tag)
-    } else if is_word(word, b"load") {
-        Ok(TraceKeyword::Load)
+    if is_word(word, b"on") {
+        Ok(TraceKeyword::Body(BodyWord::On))
     } else if is_word(word, b"round") {
-        Ok(TraceKeyword::Round)
+        Ok(TraceKeyword::Body(BodyWord::Round))
+    } else if is_word(word, b"load") {
+        Ok(TraceKeyword::Body(BodyWord::Load))
     } else if is_word(word, b"print") {
-        Ok(TraceKeyword::Print)
+        Ok(TraceKeyword::Body(BodyWord::Print))
     } else if is_word(word, b"areas") {
-        Ok(TraceKeyword::Areas)
-    } else if is_word(word, b"on") {
-        Ok(TraceKeyword::On)
+        Ok(TraceKeyword::Body(BodyWord::Areas))
+    } else if is_word(word, b"cpus") {
+        Ok(TraceKeyword::Head(HeadWord::Size(Size::Cpus)))
+    } else if is_word(word, b"area") {
+        Ok(TraceKeyword::Head(HeadWord::Size(Size::Area)))
+    } else if is_word(word, b"frames") {
+        Ok(TraceKeyword::Head(HeadWord::Size(Size::Frames)))
+    } else if is_word(word, b"vectors") {
+        Ok(TraceKeyword::Head(HeadWord::Size(Size::Vectors)))
+    } else if is_word(word, b"kernel") {
+        Ok(TraceKeyword::Head(HeadWord::Kernel))
+    } else if is_word(word, b"module") {
+        Ok(TraceKeyword::Head(HeadWord::Module))
+    } else if is_word(word, b"tag") {
+        Ok(TraceKeyword::Head(HeadWord::Tag))
     } else {
         Err(Code::Word)
     }

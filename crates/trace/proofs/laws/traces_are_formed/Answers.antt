@@ -1,4 +1,4 @@
-use Rattle.trace.proofs.TraceLaws.{trace_is_formed}
+use Rattle.trace.proofs.TraceForm.{trace_is_formed}
 use Rattle.trace.proofs.laws.traces_are_formed.Goals as goal
 
 pub returns : goal.returns

@@ -1,4 +1,4 @@
-use Rattle.trace.proofs.TraceLaws.{read_is_formed}
+use Rattle.trace.proofs.TraceForm.{read_is_formed}
 use Rattle.trace.proofs.trace_reading.read_trace.Goals as goal
 
 pub returns-clause-formed : goal.returns-clause-formed

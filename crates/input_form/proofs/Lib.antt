@@ -1,0 +1,6 @@
+pub mod Judged
+pub mod Colons
+pub mod Sections
+pub mod WordForm
+pub mod HeadForm
+pub mod LineForm

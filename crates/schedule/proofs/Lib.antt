@@ -1,0 +1,2 @@
+pub mod StepFormLines
+pub mod StepForm

@@ -1,0 +1,4 @@
+pub mod StepWords
+pub mod StepGrammar
+pub mod StepReading
+pub mod StepForm

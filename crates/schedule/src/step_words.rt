@@ -1,0 +1,93 @@
+//! The words of the step language that say what a line is.
+
+ghost use Rattle.std.specs.Prelude.{◌≡◌};
+ghost use Rattle.schedule.specs.StepWords.{step_keyword, op_name};
+
+use input_form::{Code, HeadWord, Size, is_word};
+
+/// The first word of a line.
+#[derive(Clone, Copy, Debug, PartialEq, Eq)]
+pub(crate) enum StepKeyword {
+    Head(HeadWord),
+    Body(BodyWord),
+}
+
+/// The first word of a body line.
+#[derive(Clone, Copy, Debug, PartialEq, Eq)]
+pub(crate) enum BodyWord {
+    Do,
+    Go,
+    Print,
+    Words,
+}
+
+/// The third word of a `do` line.
+#[derive(Clone, Copy, Debug, PartialEq, Eq)]
+pub(crate) enum OpName {
+    Open,
+    Close,
+    Split,
+    Swap,
+    Trim,
+    Enter,
+    Leave,
+    Load,
+    Unload,
+    Clean,
+}
+
+#[tactic(auto, unfolding(crate::specs::StepWords::step_keyword))]
+pub(crate) fn step_keyword(word: &[u8]) -> Result<StepKeyword, Code>
+    ensures { result ≡ step_keyword word.now }
+{
+    if is_word(word, b"do") {
+        Ok(StepKeyword::Body(BodyWord::Do))
+    } else if is_word(word, b"go") {
+        Ok(StepKeyword::Body(BodyWord::Go))
+    } else if is_word(word, b"print") {
+        Ok(StepKeyword::Body(BodyWord::Print))
+    } else if is_word(word, b"words") {
+        Ok(StepKeyword::Body(BodyWord::Words))
+    } else if is_word(word, b"cpus") {
+        Ok(StepKeyword::Head(HeadWord::Size(Size::Cpus)))
+    } else if is_word(word, b"area") {
+        Ok(StepKeyword::Head(HeadWord::Size(Size::Area)))
+    } else if is_word(word, b"kernel") {
+        Ok(StepKeyword::Head(HeadWord::Kernel))
+    } else if is_word(word, b"module") {
+        Ok(StepKeyword::Head(HeadWord::Module))
+    } else if is_word(word, b"tag") {
+        Ok(StepKeyword::Head(HeadWord::Tag))
+    } else {
+        Err(Code::Word)
+    }
+}
+
+#[tactic(auto, unfolding(crate::specs::StepWords::op_name))]
+pub(crate) fn op_name(word: &[u8]) -> Result<OpName, Code>
+    ensures { result ≡ op_name word.now }
+{
+    if is_word(word, b"open") {
+        Ok(OpName::Open)
+    } else if is_word(word, b"close") {
+        Ok(OpName::Close)
+    } else if is_word(word, b"split") {
+        Ok(OpName::Split)
+    } else if is_word(word, b"swap") {
+        Ok(OpName::Swap)
+    } else if is_word(word, b"trim") {
+        Ok(OpName::Trim)
+    } else if is_word(word, b"enter") {
+        Ok(OpName::Enter)
+    } else if is_word(word, b"leave") {
+        Ok(OpName::Leave)
+    } else if is_word(word, b"load") {
+        Ok(OpName::Load)
+    } else if is_word(word, b"unload") {
+        Ok(OpName::Unload)
+    } else if is_word(word, b"clean") {
+        Ok(OpName::Clean)
+    } else {
+        Err(Code::Word)
+    }
+}
