@@ -3,3 +3,4 @@ pub mod Grouping
 pub mod Tally
 pub mod Laws
 pub mod Text
+pub mod Worked
