@@ -55,7 +55,13 @@ fn formed_name(name: Option<&[u8]>) -> Option<Option<&[u8]>>
 {
     match name {
         None => Some(None),
-        Some(word) => { if is_module_name(word) { Some(Some(word)) } else { None } }
+        Some(word) => {
+            if is_module_name(word) {
+                Some(Some(word))
+            } else {
+                None
+            }
+        }
     }
 }
 

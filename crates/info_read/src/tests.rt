@@ -39,7 +39,10 @@ fn reads_rows(rt: HostRuntime) -> Result<(), Fail> {
     let parts = read_rows(rt.alloc(), text)?;
     crosses(&parts);
     assert_eq!(rt; parts.len(), 6);
-    assert_eq!(rt; (parts[4].file, parts[4].line, parts[4].kept), (b"fs/ext4/a.c".as_slice(), 11, true));
+    assert_eq!(rt;
+        (parts[4].file, parts[4].line, parts[4].kept),
+        (b"fs/ext4/a.c".as_slice(), 11, true)
+    );
     assert_eq!(rt; rows[4].bytes, 9_223_372_036_854_775_808);
     assert!(rt; name(&rows[4]) == Some(b"ext4".as_slice()) && rows[4].kept);
     assert_eq!(rt; rows[5].tag.function(), b"fa".as_slice());
@@ -138,7 +141,10 @@ fn reads_back_what_is_printed(rt: HostRuntime) -> Result<(), Fail> {
     ] {
         assert!(rt; place < read.len());
         let row = &read[place];
-        assert_eq!(rt; (row.calls, row.tag.line(), row.kept), (calls, line, place == 2));
+        assert_eq!(rt;
+            (row.calls, row.tag.line(), row.kept),
+            (calls, line, place == 2)
+        );
         assert!(rt; name(row) == module);
     }
     Ok(())
