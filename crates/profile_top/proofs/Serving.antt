@@ -13,7 +13,7 @@ at_least (Some rest) input bytes is = let parts : length (bytes ++ rest) ≡ len
     let whole : length input ≡ length (bytes ++ rest) = ap (λ (l : List ℕ). length l) is in
     omega (arith, parts, whole)
 
-long_answer : (mode : Mode) (input : List ℕ) → input_limit < length input → answer_of mode input ≡ too_long
+pub long_answer : (mode : Mode) (input : List ℕ) → input_limit < length input → answer_of mode input ≡ too_long
 long_answer mode input h = let long : nat_lt input_limit (length input) ≡ true = lt-ltb input_limit (length input) h in
     ap (λ (b : Bool). if b then too_long else answer_in mode input) long
 
@@ -39,7 +39,7 @@ all_read (Some whole) (Some rest) read input is end e =
     let all : whole ≡ read = is ∙ ap (λ (l : List ℕ). read ++ l) end ∙ append-nil read in
     sym all ∙ same
 
-short_answer : (mode : Mode) (input : List ℕ) → length input ≤ input_limit → answer_of mode input ≡ answer_in mode input
+pub short_answer : (mode : Mode) (input : List ℕ) → length input ≤ input_limit → answer_of mode input ≡ answer_in mode input
 short_answer mode input h = let short : nat_lt input_limit (length input) ≡ false = le-ltb input_limit (length input) h in
     ap (λ (b : Bool). if b then too_long else answer_in mode input) short
 

@@ -1,11 +1,13 @@
 //! The call that the program makes.
 
-ghost use Rattle.std.specs.Prelude.{◌≡◌, ◌≢◌, ◌<◌, ◌≤◌, ◌⊎◌, ◌↔◌, ℕ, List, Some, None, map};
+ghost use Rattle.std.specs.Prelude.{◌≡◌, ◌≢◌, ◌<◌, ◌≤◌, ◌⊎◌, ◌↔◌, ℕ, List, [], ◌∷◌, Some, None, map, codes};
 ghost use Rattle.std.specs.String.{string_bytes};
 ghost use Rattle.std.specs.Io.KnownBytes.{Appends};
 ghost use Rattle.outside.specs.Faults.{Rose};
 ghost use Rattle.outside.specs.Bytes.{AppendsPrefix, TookWithin};
 ghost use Rattle.profile_top.specs.declared.mode.Mode.{Mode};
+ghost use Rattle.info_group.specs.Keys.{file_key, module_key};
+ghost use Rattle.profile_top.specs.Spelled.{ServedBy, StepSays, CheckSays, GroupsSay};
 ghost use Rattle.profile_top.specs.Answers.{input_limit, mode_of, answer_of, Served, ServedInPart};
 
 use crate::mode::{answer_input, mode_of};
@@ -32,6 +34,39 @@ fn finish<K: Sink>(sink: &mut K, status: u8, text: &[u8]) -> u8
 /// accepted, 1 where it is refused, 2 where the words are not taken, 3 where memory ran out, 4 where reading failed and
 /// 5 where writing failed.
 pub fn memprof_still<S: Source, K: Sink>(
+    alloc: Global,
+    words: &[String],
+    source: &mut S,
+    sink: &mut K,
+) -> u8
+    ensures range { result < 6 }
+    ensures words { (result ≡ 2) ↔ (mode_of (map string_bytes words.now) ≡ None) }
+    ensures unread { result ≡ 2 → source.new ≡ source.old }
+    ensures silent { (result ≡ 2) ⊎ (result ≡ 3) ⊎ (result ≡ 4) → sink.new ≡ sink.old }
+    ensures served { (mode : Mode) → mode_of (map string_bytes words.now) ≡ Some mode → result < 2 → Served mode result (S.left source.old) (S.left source.new) (K.taken sink.old) (K.taken sink.new) }
+    ensures decided { (mode : Mode) (input : List ℕ) → mode_of (map string_bytes words.now) ≡ Some mode → S.left source.old ≡ Some input → result < 2
+        → (result ≡ (answer_of mode input).status) × Appends (K.taken sink.old) (K.taken sink.new) (answer_of mode input).text }
+    ensures in_part { (mode : Mode) → mode_of (map string_bytes words.now) ≡ Some mode → result ≡ 5 → ServedInPart mode (S.left source.old) (S.left source.new) (K.taken sink.old) (K.taken sink.new) }
+    ensures read_fault { result ≡ 4 → Rose (S.faults source.old) (S.faults source.new) }
+    ensures write_fault { result ≡ 5 → Rose (K.faults sink.old) (K.faults sink.new) }
+    ensures complete { (mode : Mode) → mode_of (map string_bytes words.now) ≡ Some mode → ¬ Rose (S.faults source.old) (S.faults source.new) → ¬ Rose (K.faults sink.old) (K.faults sink.new) → result ≢ 3 → result < 2 }
+    ensures faults { (S.faults source.old ≤ S.faults source.new) × (K.faults sink.old ≤ K.faults sink.new) }
+    // No call of the source or the sink failed, but where the status says so.
+    ensures no_read_fault { result ≢ 4 → S.faults source.new ≡ S.faults source.old }
+    ensures no_write_fault { result ≢ 5 → K.faults sink.new ≡ K.faults sink.old }
+    // Where memory ran out, no more was read than an input may have.
+    ensures within { result ≡ 3 → TookWithin input_limit (S.left source.old) (S.left source.new) }
+    // What is served, spelled out by the word.
+    ensures step { map string_bytes words.now ≡ codes "step" ∷ [] → result < 2 → ServedBy StepSays result (S.left source.old) (S.left source.new) (K.taken sink.old) (K.taken sink.new) }
+    ensures check { map string_bytes words.now ≡ codes "check" ∷ [] → result < 2 → ServedBy CheckSays result (S.left source.old) (S.left source.new) (K.taken sink.old) (K.taken sink.new) }
+    ensures files { map string_bytes words.now ≡ codes "files" ∷ [] → result < 2 → ServedBy (GroupsSay file_key) result (S.left source.old) (S.left source.new) (K.taken sink.old) (K.taken sink.new) }
+    ensures modules { map string_bytes words.now ≡ codes "modules" ∷ [] → result < 2 → ServedBy (GroupsSay module_key) result (S.left source.old) (S.left source.new) (K.taken sink.old) (K.taken sink.new) }
+{
+    serve(alloc, words, source, sink)
+}
+
+// The same, by the definition of each answer.
+fn serve<S: Source, K: Sink>(
     alloc: Global,
     words: &[String],
     source: &mut S,
