@@ -1,0 +1,13 @@
+pub mod Views
+pub mod Keeps
+pub mod Bases
+pub mod CpuWords
+pub mod Rows
+pub mod Runs
+pub mod Pools
+pub mod Lending
+pub mod Spans
+pub mod PlaceWords
+pub mod RunIds
+pub mod Dealt
+pub mod Starts

@@ -1,0 +1,9 @@
+pub mod Rule
+pub mod Shown
+pub mod Fresh
+pub mod Seated
+pub mod Tokens
+pub mod Parts
+pub mod Steps
+pub mod Writing
+pub mod Made

@@ -1,0 +1,29 @@
+//! The rule of the running table.
+#![tactic(auto)]
+
+mod adding;
+mod cells;
+mod cpu;
+mod making;
+mod modules;
+mod parting;
+mod reading;
+mod rule;
+mod seats;
+mod sending;
+mod subtracting;
+mod view;
+mod words;
+mod writing;
+
+pub use adding::{add_bytes, add_call};
+pub use cells::{CellPool, CellSeat};
+pub use cpu::CpuSeat;
+pub use making::{Seats, make};
+pub use modules::{ListSeat, LoadPass};
+pub use parting::{divide, part, unite};
+pub use reading::read_own;
+pub use sending::tokens_cross_threads;
+pub use subtracting::{sub_bytes, sub_call};
+pub use view::View;
+pub use writing::write_cell;
