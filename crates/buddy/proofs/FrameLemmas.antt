@@ -1,11 +1,11 @@
 -- Starts as a test and as a relation, and what a take or a give leaves of the frames.
-use Rattle.std.proofs.Common.{ℕ, zero, suc, ◌≡◌, ◌+◌, ◌-◌, ◌*◌, ◌%◌, ◌^◌, ◌<◌, ◌≤◌, ◌⊎◌, ◌&&◌, ◌==◌, ◌++◌, Bool, true, false, not, cond, nat_le, List, length, get_or, take, drop, replicate, slice_range, Some, None, count_by, inl, inr, refl, sym, ap, ◌∙◌, arith, leb-true}
+use Rattle.std.proofs.Common.{ℕ, zero, suc, ◌≡◌, ◌+◌, ◌-◌, ◌*◌, ◌%◌, ◌^◌, ◌<◌, ◌≤◌, ◌⊎◌, ◌&&◌, ◌==◌, ◌++◌, Bool, true, false, not, cond, nat_le, List, length, get_or, take, drop, replicate, slice_get, slice_range, Some, None, count_by, inl, inr, refl, sym, ap, ◌∙◌, arith, leb-true}
 use Rattle.std.specs.List.{find, list_any, range_with_len}
 use Rattle.std.proofs.lemmas.List.{same_lists, length-append, length-take-le, length-drop, length-replicate, get_or_append_left, get_or-append_right, get_or-take, get_or-drop, get_or-replicate}
 use Rattle.std.proofs.lemmas.List.Elements.{All-from_get_or}
 use Rattle.std.proofs.lemmas.List.Folds.{list_any_none, list_any_at, sum_by-replicate}
 use Rattle.std.proofs.lemmas.List.Sums.{sum_by-append}
-use Rattle.std.proofs.lemmas.Option.{slice_get_within, slice_get-get_or, get_or_from_slice_get, same_Some, none-some}
+use Rattle.std.proofs.lemmas.Option.{slice_get_past, slice_get_within, slice_get-get_or, get_or_from_slice_get, same_Some, none-some}
 use Rattle.std.proofs.lemmas.Bool.{and_parts, and_from, not-true, eqb-true, eq-eqb, le-leb, cases_lt, cases_Bool, cond-true, cond-false, both_ways}
 use Rattle.std.proofs.lemmas.Nat.{pow_pos}
 use Rattle.buddy.specs.Frames.{is_start, least_start, marked, AllAre, IsStart, IsLeastStart, HasNoStart}
@@ -198,3 +198,19 @@ pub count_given : (start order : ℕ) (frames : List Bool) → AllAre true frame
 count_given start order frames all =
     let was = sym (count_marked true start order frames) ∙ ap (count_by not) (marked_same true start order frames all) in
     omega (arith, count_marked false start order frames)
+
+-- the frames one by one after a take or a give
+pub marked_at : (b : Bool) (start order : ℕ) (frames : List Bool) (i : ℕ) → start + 2 ^ order ≤ length frames → start ≤ i → i < start + 2 ^ order → slice_get (marked b start order frames) i ≡ Some b
+marked_at b start order frames i within low high =
+    slice_get-get_or (marked b start order frames) i b (omega (arith, length-marked b start order frames within))
+    ∙ ap (λ x. Some x) (marked_inside b b start order frames i within low high)
+
+pub unmarked_at : (b : Bool) (start order : ℕ) (frames : List Bool) (i : ℕ) → start + 2 ^ order ≤ length frames → (i < start) ⊎ (start + 2 ^ order ≤ i) → slice_get (marked b start order frames) i ≡ slice_get frames i
+unmarked_at b start order frames i within out = elim (cases_lt i (length frames)) [
+    inl below ↦
+        slice_get-get_or (marked b start order frames) i b (omega (arith, length-marked b start order frames within))
+        ∙ ap (λ x. Some x) (marked_outside b b start order frames i within out)
+        ∙ sym (slice_get-get_or frames i b below)
+    | inr past ↦
+        slice_get_past (marked b start order frames) i (omega (arith, length-marked b start order frames within))
+        ∙ sym (slice_get_past frames i past) ]
