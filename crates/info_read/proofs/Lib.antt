@@ -9,3 +9,4 @@ pub mod TextLemmas
 pub mod FaultLemmas
 pub mod BackLemmas
 pub mod OwnLemmas
+pub mod FirstLemmas

@@ -4,10 +4,12 @@ ghost use Rattle.std.specs.Prelude.{◌≡◌, ◌==◌, ◌≤◌, length, posi
 ghost use Rattle.std.specs.Option.{option_copied};
 ghost use Rattle.info_read.specs.Cuts.{cut, after_word, spaces_before, unpadded};
 
+use memchr::memchr;
+
 fn mark_place(text: &[u8], mark: u8) -> Option<usize>
     ensures { result ≡ position (λ b. b == mark) text.now }
 {
-    text.iter().position(|b| *b == mark)
+    memchr(mark, text)
 }
 
 /// What stands before the first such byte, and what behind it.
