@@ -6,10 +6,10 @@ use Rattle.outside.specs.Bytes.{AppendsPrefix}
 use Rattle.tag_section.specs.Section.{names_of}
 use Rattle.text_form.specs.Lines.{lines_of}
 use Rattle.input_form.specs.declared.code.Code.{Code}
-use Rattle.schedule.specs.declared.steps.Steps.{Steps}
+use Rattle.step_text.specs.declared.steps.Steps.{Steps}
 use Rattle.trace.specs.declared.traces.Trace.{Trace}
 use Rattle.input_form.specs.Codes.{code_text}
-use Rattle.schedule.specs.StepReading.{steps_of}
+use Rattle.step_text.specs.StepReading.{steps_of}
 use Rattle.trace.specs.TraceReading.{trace_of}
 use Rattle.round_check.specs.Walk.{rounds_of}
 use Rattle.info_read.specs.declared.row.InfoRow.{InfoRow}

@@ -2,7 +2,7 @@
 
 ghost use Rattle.std.specs.Prelude.{◌≡◌, ◌++◌, ◌≤◌, length, IfOk, OnOk};
 ghost use Rattle.text_form.specs.Lines.{lines_of};
-ghost use Rattle.schedule.specs.StepReading.{steps_of};
+ghost use Rattle.step_text.specs.StepReading.{steps_of};
 ghost use Rattle.trace.specs.TraceReading.{trace_of};
 ghost use Rattle.profile_top.specs.Answers.{Gives, ok_text, all_well, is_schedule, steps_checked, trace_checked, checked};
 

@@ -1,8 +1,8 @@
 //! The command `step`: plays a schedule.
 
 ghost use Rattle.std.specs.Prelude.{◌≡◌, ◌≤◌, length, IfOk};
-ghost use Rattle.schedule.specs.StepForm.{AreSteps};
-ghost use Rattle.schedule.specs.StepReading.{steps_of};
+ghost use Rattle.step_text.specs.StepForm.{AreSteps};
+ghost use Rattle.step_text.specs.StepReading.{steps_of};
 ghost use Rattle.profile_top.specs.Answers.{Gives, step_played, step_read};
 
 use crate::answer::{Answer, refusal};

@@ -10,15 +10,15 @@ use Rattle.core_steps.specs.CoreState.{CoreState, IsOpOf, SectionsFitShape, fres
 use Rattle.cpu_ops.specs.Machine.{is_new_key}
 use Rattle.core_steps.proofs.Meaning.{core_of_fresh}
 use Rattle.input_form.specs.declared.code.Code.{Code}
-use Rattle.schedule.specs.declared.steps.StepAct.{StepAct}
-use Rattle.schedule.specs.declared.steps.StepAct.TheVariants as step_act
-use Rattle.schedule.specs.declared.steps.StepActor.{StepActor}
-use Rattle.schedule.specs.declared.steps.StepActor.TheVariants as step_actor
-use Rattle.schedule.specs.declared.steps.StepLine.{StepLine}
-use Rattle.schedule.specs.declared.steps.StepOp.{StepOp}
-use Rattle.schedule.specs.declared.steps.StepOp.TheVariants as step_op
-use Rattle.schedule.specs.declared.steps.Steps.{Steps}
-use Rattle.schedule.specs.StepForm.{AreSteps, IsStepOp, IsStepAct, IsOwnOp}
+use Rattle.step_text.specs.declared.steps.StepAct.{StepAct}
+use Rattle.step_text.specs.declared.steps.StepAct.TheVariants as step_act
+use Rattle.step_text.specs.declared.steps.StepActor.{StepActor}
+use Rattle.step_text.specs.declared.steps.StepActor.TheVariants as step_actor
+use Rattle.step_text.specs.declared.steps.StepLine.{StepLine}
+use Rattle.step_text.specs.declared.steps.StepOp.{StepOp}
+use Rattle.step_text.specs.declared.steps.StepOp.TheVariants as step_op
+use Rattle.step_text.specs.declared.steps.Steps.{Steps}
+use Rattle.step_text.specs.StepForm.{AreSteps, IsStepOp, IsStepAct, IsOwnOp}
 use Rattle.step_play.specs.Acts.{actor_of, op_of}
 use Rattle.input_form.specs.declared.code.TextError.{TextError}
 use Rattle.tag_model.specs.declared.shape.Shape.{Shape}

@@ -32,13 +32,13 @@ use Rattle.core_steps.proofs.Queued.{core_queued}
 use Rattle.core_steps.proofs.Quiet.{quiet_totals}
 use Rattle.input_form.specs.declared.code.Code.{Code}
 use Rattle.input_form.specs.declared.code.Code.TheVariants as code
-use Rattle.schedule.specs.declared.steps.StepAct.{StepAct}
-use Rattle.schedule.specs.declared.steps.StepAct.TheVariants as act
-use Rattle.schedule.specs.declared.steps.StepActor.TheVariants as step_actor
-use Rattle.schedule.specs.declared.steps.StepLine.{StepLine}
-use Rattle.schedule.specs.declared.steps.Steps.{Steps}
+use Rattle.step_text.specs.declared.steps.StepAct.{StepAct}
+use Rattle.step_text.specs.declared.steps.StepAct.TheVariants as act
+use Rattle.step_text.specs.declared.steps.StepActor.TheVariants as step_actor
+use Rattle.step_text.specs.declared.steps.StepLine.{StepLine}
+use Rattle.step_text.specs.declared.steps.Steps.{Steps}
 use Rattle.input_form.specs.Judging.{◌>>=◌, at}
-use Rattle.schedule.specs.StepForm.{AreSteps, IsStepAct}
+use Rattle.step_text.specs.StepForm.{AreSteps, IsStepAct}
 use Rattle.step_play.specs.Acts.{actor_of, op_of}
 use Rattle.step_play.specs.Printed.{Setting, total_moved}
 use Rattle.step_play.specs.Reached.{Reached, IsSetting, IsLineOf, PassesThrough}

@@ -11,7 +11,7 @@ use Rattle.input_form.specs.declared.code.Code.{Code}
 use Rattle.input_form.specs.Judging.{◌>>=◌, at}
 use Rattle.input_form.specs.declared.code.TextError.{TextError}
 use Rattle.input_form.specs.declared.code.TextError.TheVariants as text_error
-use Rattle.schedule.specs.declared.steps.StepLine.{StepLine}
+use Rattle.step_text.specs.declared.steps.StepLine.{StepLine}
 use Rattle.step_play.specs.declared.acts.ActError.{ActError}
 use Rattle.step_play.specs.declared.acts.ActError.TheVariants as error
 use Rattle.step_play.specs.Printed.{Setting}

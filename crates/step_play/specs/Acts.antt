@@ -7,10 +7,10 @@ use Rattle.cpu_ops.specs.declared.refused.StepRefused.{StepRefused}
 use Rattle.cpu_ops.specs.declared.refused.StepRefused.TheVariants as refused
 use Rattle.input_form.specs.declared.code.Code.{Code}
 use Rattle.input_form.specs.declared.code.Code.TheVariants as code
-use Rattle.schedule.specs.declared.steps.StepActor.{StepActor}
-use Rattle.schedule.specs.declared.steps.StepActor.TheVariants as step_actor
-use Rattle.schedule.specs.declared.steps.StepOp.{StepOp}
-use Rattle.schedule.specs.declared.steps.StepOp.TheVariants as step_op
+use Rattle.step_text.specs.declared.steps.StepActor.{StepActor}
+use Rattle.step_text.specs.declared.steps.StepActor.TheVariants as step_actor
+use Rattle.step_text.specs.declared.steps.StepOp.{StepOp}
+use Rattle.step_text.specs.declared.steps.StepOp.TheVariants as step_op
 
 abbrev pub actor_of : StepActor → Actor
 actor_of (step_actor.Cpu cpu) = actor.Cpu cpu

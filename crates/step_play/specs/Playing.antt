@@ -5,9 +5,9 @@ use Rattle.core_steps.specs.CoreState.{CoreState, IsActor, IsOpOf}
 use Rattle.input_form.specs.declared.code.Code.{Code}
 use Rattle.input_form.specs.declared.code.TextError.{TextError}
 use Rattle.input_form.specs.declared.code.TextError.TheVariants as text
-use Rattle.schedule.specs.declared.steps.StepAct.{StepAct}
-use Rattle.schedule.specs.declared.steps.StepAct.TheVariants as act
-use Rattle.schedule.specs.declared.steps.StepLine.{StepLine}
+use Rattle.step_text.specs.declared.steps.StepAct.{StepAct}
+use Rattle.step_text.specs.declared.steps.StepAct.TheVariants as act
+use Rattle.step_text.specs.declared.steps.StepLine.{StepLine}
 use Rattle.step_play.specs.Acts.{actor_of, op_of}
 use Rattle.step_play.specs.declared.acts.ActError.{ActError}
 use Rattle.step_play.specs.declared.acts.ActError.TheVariants as error

@@ -4,8 +4,8 @@ use Rattle.tag_model.specs.Shape.{IsChecked}
 use Rattle.core_steps.specs.declared.op.Actor.{Actor}
 use Rattle.core_steps.specs.declared.op.Op.{Op}
 use Rattle.core_steps.specs.CoreState.{IsActor, IsOpOf, SectionsFitShape, refused}
-use Rattle.schedule.specs.declared.steps.StepLine.{StepLine}
-use Rattle.schedule.specs.declared.steps.Steps.{Steps}
+use Rattle.step_text.specs.declared.steps.StepLine.{StepLine}
+use Rattle.step_text.specs.declared.steps.Steps.{Steps}
 use Rattle.step_play.specs.Printed.{Setting}
 use Rattle.step_play.specs.Schedule.{Played, core_played, nothing_played, play, setting_of, steps_taken, with_step, with_queued, with_text}
 use Rattle.step_play.specs.Playing.{IsAct}

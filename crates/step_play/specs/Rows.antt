@@ -2,13 +2,13 @@
 use Rattle.std.specs.Prelude.{ℕ, ◌+◌, Some, None, Result, Ok, Err, List, [], ◌∷◌, codes}
 use Rattle.tag_section.specs.Section.{Section}
 use Rattle.input_form.specs.declared.code.Code.{Code}
-use Rattle.schedule.specs.declared.steps.StepAct.{StepAct}
-use Rattle.schedule.specs.declared.steps.StepAct.TheVariants.{Do, Go, Print, Words}
-use Rattle.schedule.specs.declared.steps.StepActor.{StepActor}
-use Rattle.schedule.specs.declared.steps.StepActor.TheVariants.{Cpu, Manager}
-use Rattle.schedule.specs.declared.steps.StepOp.TheVariants.{Open, Close, Split, Enter, Leave, Load, Unload, Clean}
-use Rattle.schedule.specs.declared.steps.StepLine.{StepLine}
-use Rattle.schedule.specs.declared.steps.Steps.{Steps}
+use Rattle.step_text.specs.declared.steps.StepAct.{StepAct}
+use Rattle.step_text.specs.declared.steps.StepAct.TheVariants.{Do, Go, Print, Words}
+use Rattle.step_text.specs.declared.steps.StepActor.{StepActor}
+use Rattle.step_text.specs.declared.steps.StepActor.TheVariants.{Cpu, Manager}
+use Rattle.step_text.specs.declared.steps.StepOp.TheVariants.{Open, Close, Split, Enter, Leave, Load, Unload, Clean}
+use Rattle.step_text.specs.declared.steps.StepLine.{StepLine}
+use Rattle.step_text.specs.declared.steps.Steps.{Steps}
 use Rattle.step_play.specs.Schedule.{Played, schedule_of}
 
 -- what a schedule writes, or the line that is refused and why

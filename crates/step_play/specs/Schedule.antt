@@ -16,10 +16,10 @@ use Rattle.core_steps.specs.Moved.{core_of}
 use Rattle.core_steps.specs.StepsLeft.{steps_left}
 use Rattle.input_form.specs.declared.code.Code.{Code}
 use Rattle.input_form.specs.declared.code.Code.TheVariants as code
-use Rattle.schedule.specs.declared.steps.StepAct.{StepAct}
-use Rattle.schedule.specs.declared.steps.StepAct.TheVariants as act
-use Rattle.schedule.specs.declared.steps.StepLine.{StepLine}
-use Rattle.schedule.specs.declared.steps.Steps.{Steps}
+use Rattle.step_text.specs.declared.steps.StepAct.{StepAct}
+use Rattle.step_text.specs.declared.steps.StepAct.TheVariants as act
+use Rattle.step_text.specs.declared.steps.StepLine.{StepLine}
+use Rattle.step_text.specs.declared.steps.Steps.{Steps}
 use Rattle.input_form.specs.Judging.{◌>>=◌, at}
 use Rattle.step_play.specs.Acts.{actor_of, op_of, code_of}
 use Rattle.step_play.specs.Printed.{Setting, allocinfo_text, words_text, event_text}

@@ -1,7 +1,7 @@
 //! A schedule from its first line to its last.
 
 ghost use Rattle.std.specs.Prelude.{◌≡◌, ◌≤◌, IfOk};
-ghost use Rattle.schedule.specs.StepForm.{AreSteps};
+ghost use Rattle.step_text.specs.StepForm.{AreSteps};
 ghost use Rattle.step_play.specs.Schedule.{shape_of, schedule_of, setting_of};
 ghost use Rattle.step_play.specs.Playing.{Ends};
 

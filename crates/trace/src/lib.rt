@@ -9,7 +9,7 @@ mod traces;
 
 pub use input_form::{Code, LineError, TextError, error_at};
 pub use laws::traces_are_formed;
-pub use schedule::{
+pub use step_text::{
     StepAct, StepActor, StepLine, StepLines, StepOp, Steps, read_steps, steps_are_formed,
 };
 pub use trace_reading::read_trace;

@@ -1,4 +1,4 @@
-use Rattle.schedule.proofs.StepForm.{steps_of_formed}
+use Rattle.step_text.proofs.StepForm.{steps_of_formed}
 use Rattle.step_play.specs.Schedule.{setting_of}
 use Rattle.step_play.proofs.ReachedLemmas.{passed, reached_core, setting_is}
 use Rattle.step_play.proofs.laws.inputs_are_safe.Goals as goal

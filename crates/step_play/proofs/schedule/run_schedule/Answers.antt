@@ -1,7 +1,7 @@
 use Rattle.std.proofs.Common.{◌≡◌, List, All, sym, subst, Ok, Err}
 use Rattle.input_form.specs.declared.code.TextError.{TextError}
 use Rattle.core_steps.specs.CoreState.{CoreState, fresh}
-use Rattle.schedule.specs.declared.steps.StepLine.{StepLine}
+use Rattle.step_text.specs.declared.steps.StepLine.{StepLine}
 use Rattle.step_play.specs.Schedule.{setting_of, shape_of, schedule_of}
 use Rattle.step_play.specs.Playing.{Plays, IsLine}
 use Rattle.step_play.proofs.Lines.{playable, played_all, ends_text, names_kept}

@@ -1,7 +1,7 @@
 //! The words of the step language that say what a line is.
 
 ghost use Rattle.std.specs.Prelude.{◌≡◌};
-ghost use Rattle.schedule.specs.StepWords.{step_keyword, op_name};
+ghost use Rattle.step_text.specs.StepWords.{step_keyword, op_name};
 
 use input_form::{Code, HeadWord, Size, is_word};
 

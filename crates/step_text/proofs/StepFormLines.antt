@@ -8,18 +8,18 @@ use Rattle.text_form.specs.Numbers.{number_value, number_in, number_below}
 use Rattle.text_form.specs.Words.{words_of, word_at}
 use Rattle.input_form.specs.declared.code.Code.{Code}
 use Rattle.input_form.specs.declared.code.Code.TheVariants as code
-use Rattle.schedule.specs.declared.step_words.OpName.{OpName}
-use Rattle.schedule.specs.declared.step_words.OpName.TheVariants as name
-use Rattle.schedule.specs.declared.steps.StepAct.{StepAct}
-use Rattle.schedule.specs.declared.steps.StepActor.{StepActor}
-use Rattle.schedule.specs.declared.steps.StepActor.TheVariants as actor
-use Rattle.schedule.specs.declared.steps.StepOp.{StepOp}
-use Rattle.schedule.specs.declared.steps.StepOp.TheVariants as op
+use Rattle.step_text.specs.declared.step_words.OpName.{OpName}
+use Rattle.step_text.specs.declared.step_words.OpName.TheVariants as name
+use Rattle.step_text.specs.declared.steps.StepAct.{StepAct}
+use Rattle.step_text.specs.declared.steps.StepActor.{StepActor}
+use Rattle.step_text.specs.declared.steps.StepActor.TheVariants as actor
+use Rattle.step_text.specs.declared.steps.StepOp.{StepOp}
+use Rattle.step_text.specs.declared.steps.StepOp.TheVariants as op
 use Rattle.input_form.specs.Judging.{◌>>=◌}
 use Rattle.input_form.specs.Places.{module_word, tag_word, IsKey, IsTag, IsModule}
-use Rattle.schedule.specs.StepForm.{IsStepActor, is_managers_op, IsOwnOp, AreNewKeys, IsStepOp, IsStepAct, is_printing}
-use Rattle.schedule.specs.StepGrammar.{is_managers, belongs, actor_word, new_keys_fit, step_op, do_line, count_word, go_line, words_line, op_words}
-use Rattle.schedule.specs.StepWords.{op_name}
+use Rattle.step_text.specs.StepForm.{IsStepActor, is_managers_op, IsOwnOp, AreNewKeys, IsStepOp, IsStepAct, is_printing}
+use Rattle.step_text.specs.StepGrammar.{is_managers, belongs, actor_word, new_keys_fit, step_op, do_line, count_word, go_line, words_line, op_words}
+use Rattle.step_text.specs.StepWords.{op_name}
 use Rattle.input_form.specs.Words.{is_word, number_word, cpu_word}
 use Rattle.input_form.proofs.Judged.{bound, given, checked, either}
 use Rattle.input_form.proofs.WordForm.{number_word_in, cpu_word_in, module_word_in, tag_word_in}

@@ -4,11 +4,11 @@ use Rattle.input_form.specs.declared.code.Code.{Code}
 use Rattle.input_form.specs.declared.code.Code.TheVariants.{Word}
 use Rattle.input_form.specs.declared.head.HeadWord.TheVariants as head
 use Rattle.input_form.specs.declared.head.Size.TheVariants as size
-use Rattle.schedule.specs.declared.step_words.BodyWord.TheVariants as body
-use Rattle.schedule.specs.declared.step_words.StepKeyword.{StepKeyword}
-use Rattle.schedule.specs.declared.step_words.StepKeyword.TheVariants as keyword
-use Rattle.schedule.specs.declared.step_words.OpName.{OpName}
-use Rattle.schedule.specs.declared.step_words.OpName.TheVariants as op
+use Rattle.step_text.specs.declared.step_words.BodyWord.TheVariants as body
+use Rattle.step_text.specs.declared.step_words.StepKeyword.{StepKeyword}
+use Rattle.step_text.specs.declared.step_words.StepKeyword.TheVariants as keyword
+use Rattle.step_text.specs.declared.step_words.OpName.{OpName}
+use Rattle.step_text.specs.declared.step_words.OpName.TheVariants as op
 use Rattle.input_form.specs.Words.{is_word}
 
 unfoldable pub step_keyword : List ℕ → Result StepKeyword Code

@@ -5,19 +5,19 @@ use Rattle.text_form.specs.Words.{words_of, word_at}
 use Rattle.input_form.specs.declared.code.Code.{Code}
 use Rattle.input_form.specs.declared.code.Code.TheVariants as code
 use Rattle.input_form.specs.declared.head.Head.{Head}
-use Rattle.schedule.specs.declared.step_reading.StepReading.{StepReading}
-use Rattle.schedule.specs.declared.step_words.BodyWord.{BodyWord}
-use Rattle.schedule.specs.declared.step_words.BodyWord.TheVariants as body
-use Rattle.schedule.specs.declared.step_words.StepKeyword.{StepKeyword}
-use Rattle.schedule.specs.declared.step_words.StepKeyword.TheVariants as keyword
-use Rattle.schedule.specs.declared.steps.StepAct.{StepAct}
-use Rattle.schedule.specs.declared.steps.StepAct.TheVariants.{Print}
-use Rattle.schedule.specs.declared.steps.Steps.{Steps}
+use Rattle.step_text.specs.declared.step_reading.StepReading.{StepReading}
+use Rattle.step_text.specs.declared.step_words.BodyWord.{BodyWord}
+use Rattle.step_text.specs.declared.step_words.BodyWord.TheVariants as body
+use Rattle.step_text.specs.declared.step_words.StepKeyword.{StepKeyword}
+use Rattle.step_text.specs.declared.step_words.StepKeyword.TheVariants as keyword
+use Rattle.step_text.specs.declared.steps.StepAct.{StepAct}
+use Rattle.step_text.specs.declared.steps.StepAct.TheVariants.{Print}
+use Rattle.step_text.specs.declared.steps.Steps.{Steps}
 use Rattle.input_form.specs.Forms.{first_line}
 use Rattle.input_form.specs.Head.{empty_head, cpus_of, head_line, section_form}
 use Rattle.input_form.specs.Judging.{◌>>=◌, ◌>>◌, need, at}
-use Rattle.schedule.specs.StepGrammar.{do_line, go_line, words_line}
-use Rattle.schedule.specs.StepWords.{step_keyword}
+use Rattle.step_text.specs.StepGrammar.{do_line, go_line, words_line}
+use Rattle.step_text.specs.StepWords.{step_keyword}
 use Rattle.input_form.specs.Reading.{judged_lines}
 use Rattle.input_form.specs.Words.{is_word}
 

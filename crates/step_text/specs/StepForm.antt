@@ -5,14 +5,14 @@ use Rattle.tag_section.specs.Section.{Section, AreSections}
 use Rattle.input_form.specs.Forms.{AreLineNumbers}
 use Rattle.input_form.specs.Head.{AreTagged}
 use Rattle.input_form.specs.Places.{IsKey, IsModule, IsTag}
-use Rattle.schedule.specs.declared.steps.StepAct.{StepAct}
-use Rattle.schedule.specs.declared.steps.StepAct.TheVariants as act
-use Rattle.schedule.specs.declared.steps.StepActor.{StepActor}
-use Rattle.schedule.specs.declared.steps.StepActor.TheVariants as actor
-use Rattle.schedule.specs.declared.steps.StepLine.{StepLine}
-use Rattle.schedule.specs.declared.steps.StepOp.{StepOp}
-use Rattle.schedule.specs.declared.steps.StepOp.TheVariants as op
-use Rattle.schedule.specs.declared.steps.Steps.{Steps}
+use Rattle.step_text.specs.declared.steps.StepAct.{StepAct}
+use Rattle.step_text.specs.declared.steps.StepAct.TheVariants as act
+use Rattle.step_text.specs.declared.steps.StepActor.{StepActor}
+use Rattle.step_text.specs.declared.steps.StepActor.TheVariants as actor
+use Rattle.step_text.specs.declared.steps.StepLine.{StepLine}
+use Rattle.step_text.specs.declared.steps.StepOp.{StepOp}
+use Rattle.step_text.specs.declared.steps.StepOp.TheVariants as op
+use Rattle.step_text.specs.declared.steps.Steps.{Steps}
 
 -- the bytes of an allocation, or of a trim
 abbrev pub IsBytes : ℕ → Type 0

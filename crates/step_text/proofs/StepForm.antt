@@ -19,19 +19,19 @@ use Rattle.input_form.specs.Words.{is_word}
 use Rattle.input_form.proofs.HeadForm.{IsHead, IsBefore, AreClosed, IsHead-empty, section_form_in, head_line_in, cpus_in, area_in}
 use Rattle.input_form.proofs.Judged.{bound, given, passed, skipped, checked, weaker}
 use Rattle.input_form.proofs.LineForm.{lines_in, rises_more, rises_on, rises_to}
-use Rattle.schedule.specs.declared.step_reading.StepReading.{StepReading}
-use Rattle.schedule.specs.declared.step_words.BodyWord.{BodyWord}
-use Rattle.schedule.specs.declared.step_words.BodyWord.TheVariants as body
-use Rattle.schedule.specs.declared.step_words.StepKeyword.{StepKeyword}
-use Rattle.schedule.specs.declared.step_words.StepKeyword.TheVariants as keyword
-use Rattle.schedule.specs.declared.steps.StepAct.{StepAct}
-use Rattle.schedule.specs.declared.steps.StepAct.TheVariants as act
-use Rattle.schedule.specs.declared.steps.StepLine.{StepLine}
-use Rattle.schedule.specs.declared.steps.Steps.{Steps}
-use Rattle.schedule.specs.StepForm.{IsStepAct, is_printing, prints_of, numbers_of, AreSteps}
-use Rattle.schedule.specs.StepReading.{empty_reading, with_act, with_print, in_body, body_words, body_line, keyword_line, word_line, ending, steps_from, steps_of}
-use Rattle.schedule.specs.StepWords.{step_keyword}
-use Rattle.schedule.proofs.StepFormLines.{IsQuiet, do_line_in, go_line_in, words_line_in}
+use Rattle.step_text.specs.declared.step_reading.StepReading.{StepReading}
+use Rattle.step_text.specs.declared.step_words.BodyWord.{BodyWord}
+use Rattle.step_text.specs.declared.step_words.BodyWord.TheVariants as body
+use Rattle.step_text.specs.declared.step_words.StepKeyword.{StepKeyword}
+use Rattle.step_text.specs.declared.step_words.StepKeyword.TheVariants as keyword
+use Rattle.step_text.specs.declared.steps.StepAct.{StepAct}
+use Rattle.step_text.specs.declared.steps.StepAct.TheVariants as act
+use Rattle.step_text.specs.declared.steps.StepLine.{StepLine}
+use Rattle.step_text.specs.declared.steps.Steps.{Steps}
+use Rattle.step_text.specs.StepForm.{IsStepAct, is_printing, prints_of, numbers_of, AreSteps}
+use Rattle.step_text.specs.StepReading.{empty_reading, with_act, with_print, in_body, body_words, body_line, keyword_line, word_line, ending, steps_from, steps_of}
+use Rattle.step_text.specs.StepWords.{step_keyword}
+use Rattle.step_text.proofs.StepFormLines.{IsQuiet, do_line_in, go_line_in, words_line_in}
 
 -- what holds before the line of the number
 pub record IsReading (number : ℕ) (reading : StepReading) : Type 0 where

@@ -84,7 +84,7 @@ pub struct StepLines {
 
 impl Model for StepLines {
     ghost use Rattle.std.specs.Prelude.{List};
-    ghost use Rattle.schedule.specs.declared.steps.StepLine.{StepLine};
+    ghost use Rattle.step_text.specs.declared.steps.StepLine.{StepLine};
 
     ghost Value = { List StepLine };
 

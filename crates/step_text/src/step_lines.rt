@@ -1,7 +1,7 @@
 //! The lines of a schedule's body.
 
 ghost use Rattle.std.specs.Prelude.{◌≡◌, ◌≤◌};
-ghost use Rattle.schedule.specs.StepGrammar.{op_words, is_managers, belongs, actor_word, new_keys_fit, step_op, do_line, count_word, go_line, words_line};
+ghost use Rattle.step_text.specs.StepGrammar.{op_words, is_managers, belongs, actor_word, new_keys_fit, step_op, do_line, count_word, go_line, words_line};
 
 use crate::step_words::{OpName, op_name};
 use crate::steps::{StepAct, StepActor, StepOp};

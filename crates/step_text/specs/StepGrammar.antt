@@ -4,17 +4,17 @@ use Rattle.tag_section.specs.Section.{Section}
 use Rattle.text_form.specs.Words.{words_of, word_at}
 use Rattle.input_form.specs.declared.code.Code.{Code}
 use Rattle.input_form.specs.declared.code.Code.TheVariants as code
-use Rattle.schedule.specs.declared.step_words.OpName.{OpName}
-use Rattle.schedule.specs.declared.step_words.OpName.TheVariants as name
-use Rattle.schedule.specs.declared.steps.StepAct.{StepAct}
-use Rattle.schedule.specs.declared.steps.StepAct.TheVariants as act
-use Rattle.schedule.specs.declared.steps.StepActor.{StepActor}
-use Rattle.schedule.specs.declared.steps.StepActor.TheVariants as actor
-use Rattle.schedule.specs.declared.steps.StepOp.{StepOp}
-use Rattle.schedule.specs.declared.steps.StepOp.TheVariants as op
+use Rattle.step_text.specs.declared.step_words.OpName.{OpName}
+use Rattle.step_text.specs.declared.step_words.OpName.TheVariants as name
+use Rattle.step_text.specs.declared.steps.StepAct.{StepAct}
+use Rattle.step_text.specs.declared.steps.StepAct.TheVariants as act
+use Rattle.step_text.specs.declared.steps.StepActor.{StepActor}
+use Rattle.step_text.specs.declared.steps.StepActor.TheVariants as actor
+use Rattle.step_text.specs.declared.steps.StepOp.{StepOp}
+use Rattle.step_text.specs.declared.steps.StepOp.TheVariants as op
 use Rattle.input_form.specs.Judging.{◌>>=◌, ◌>>◌, need}
 use Rattle.input_form.specs.Places.{module_word, tag_word}
-use Rattle.schedule.specs.StepWords.{op_name}
+use Rattle.step_text.specs.StepWords.{op_name}
 use Rattle.input_form.specs.Words.{is_word, number_word, key_word, cpu_word}
 
 -- how many words a `do` line has

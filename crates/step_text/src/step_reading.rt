@@ -3,8 +3,8 @@
 ghost use Rattle.std.specs.Prelude.{◌≡◌, ◌<◌, IfOk, OnOk};
 ghost use Rattle.text_form.specs.Lines.{FitsInput};
 ghost use Rattle.input_form.specs.Judging.{Leaves, Reads};
-ghost use Rattle.schedule.specs.StepForm.{AreSteps};
-ghost use Rattle.schedule.specs.StepReading.{body_line, empty_reading, ending, in_body, steps_from, steps_of, word_line, with_act, with_print};
+ghost use Rattle.step_text.specs.StepForm.{AreSteps};
+ghost use Rattle.step_text.specs.StepReading.{body_line, empty_reading, ending, in_body, steps_from, steps_of, word_line, with_act, with_print};
 
 use crate::step_lines::{do_line, go_line, words_line};
 use crate::step_words::{BodyWord, StepKeyword, step_keyword};
