@@ -5,10 +5,10 @@ use Rattle.std.specs.Cmp.Lexicographic.{bytes_decides}
 use Rattle.std.specs.Str.{bytes_eq}
 use Rattle.tag_section.specs.Section.{names_of}
 use Rattle.text_form.specs.Lines.{lines_of}
-use Rattle.trace.specs.declared.code.Code.{Code}
-use Rattle.trace.specs.declared.steps.Steps.{Steps}
+use Rattle.input_form.specs.declared.code.Code.{Code}
+use Rattle.step_text.specs.declared.steps.Steps.{Steps}
 use Rattle.trace.specs.declared.traces.Trace.{Trace}
-use Rattle.trace.specs.StepReading.{steps_of}
+use Rattle.step_text.specs.StepReading.{steps_of}
 use Rattle.trace.specs.TraceReading.{trace_of}
 use Rattle.round_check.specs.Walk.{rounds_of}
 use Rattle.step_play.specs.Schedule.{Played, schedule_of}

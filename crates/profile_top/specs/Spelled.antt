@@ -3,9 +3,9 @@ use Rattle.std.specs.Prelude.{◌≡◌, ◌≢◌, ℕ, ◌<◌, ◌≤◌, ◌
 use Rattle.std.specs.Io.KnownBytes.{Appends, Consumes, IsAtEnd}
 use Rattle.tag_section.specs.Section.{names_of}
 use Rattle.text_form.specs.Lines.{lines_of}
-use Rattle.trace.specs.declared.code.Code.{Code}
-use Rattle.trace.specs.Codes.{code_text}
-use Rattle.trace.specs.StepReading.{steps_of}
+use Rattle.input_form.specs.declared.code.Code.{Code}
+use Rattle.input_form.specs.Codes.{code_text}
+use Rattle.step_text.specs.StepReading.{steps_of}
 use Rattle.trace.specs.TraceReading.{trace_of}
 use Rattle.round_check.specs.Walk.{rounds_of}
 use Rattle.step_play.specs.Schedule.{schedule_of}
