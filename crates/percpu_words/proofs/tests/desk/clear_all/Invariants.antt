@@ -1,0 +1,10 @@
+use Rattle.std.proofs.Common.{All, None, ◌≡◌}
+use Rattle.tag_rule.specs.Shown.{CellShown}
+use Rattle.percpu_words.proofs.tests.desk.clear_all.Given as goal
+
+abbrev pub invariant-loop-cell : goal.invariant-loop-cell
+invariant-loop-cell l = record {
+  board : l.cpu.board ≡ l.initial.cpu.board;
+  rests : l.cpu.part.hand ≡ None;
+  there : All (λ (c : CellShown). c.board ≡ l.initial.cpu.board) l.cells;
+}
