@@ -1,23 +1,19 @@
 -- Each change leaves a list that is one: the book stays a book, and the stops and the ids that are left are few.
-use Rattle.std.proofs.Common.{◌≡◌, ℕ, ◌+◌, ◌<◌, ◌≤◌, ◌==◌, ◌⊎◌, ◌≢◌, ◌&&◌, ◌∙◌, ap, nat_lt, List, [], ◌∷◌, ◌++◌, length, get_or, slice_get, take, map, filter, find, All, AllPairs, Option, Some, None, refl, sym, subst, inl, inr, arith, Bool, true, false, not, cond, eq-eqb}
+use Rattle.std.proofs.Common.{◌≡◌, ℕ, ◌+◌, ◌<◌, ◌≤◌, ◌==◌, ◌≢◌, ◌∙◌, ap, List, [], ◌∷◌, length, get_or, map, find, All, AllPairs, Some, None, refl, sym, subst, arith, Bool, true, false, not, cond, eq-eqb}
 use Rattle.std.specs.List.{list_any}
-use Rattle.std.proofs.lemmas.Bool.{or_parts, both_ways, cond-false, false≢true}
-use Rattle.std.proofs.lemmas.List.{length-map, length-append, get_or-map, map-append, map_more}
-use Rattle.std.proofs.lemmas.List.Elements.{All-map, All-filter, All-push, All-weaker, filter-append}
-use Rattle.std.proofs.lemmas.Option.{slice_get-get_or, same_Some}
-use Rattle.std.proofs.lemmas.List.Sums.{length-filter, count_by-le-length}
+use Rattle.std.proofs.lemmas.Bool.{or_parts, both_ways, cond-false}
+use Rattle.std.proofs.lemmas.List.{length-map, length-append, get_or-map}
+use Rattle.std.proofs.lemmas.List.Elements.{All-map, All-filter, All-push, All-weaker}
 use Rattle.tag_model.specs.declared.shape.Shape.{Shape}
-use Rattle.tag_model.specs.declared.state.Kind.{Kind}
-use Rattle.tag_model.specs.declared.state.Kind.TheVariants.{Bytes, Calls}
-use Rattle.tag_model.specs.declared.state.Reader.{Reader}
-use Rattle.tag_model.specs.declared.state.Record.{Record}
+use Rattle.tag_model.specs.declared.state.Kind.TheVariants.{Bytes}
 use Rattle.tag_model.specs.declared.state.Stop.{Stop}
 use Rattle.tag_model.specs.declared.state.Sweep.{Sweep}
 use Rattle.tag_model.specs.declared.state.Sweep.TheVariants as sweep
-use Rattle.tag_model.specs.Laws.{is_listed, sweep_fits}
-use Rattle.tag_model.specs.StepRules.{begins_pass, after_pass, goes_on, passes_record, sweep_after, stop_after, end_of, without_id, dead_ids}
-use Rattle.tag_model.proofs.Ids.{listed_cons}
+use Rattle.tag_model.specs.Laws.{sweep_fits}
+use Rattle.tag_model.specs.StepRules.{begins_pass, stop_after, dead_ids}
 use Rattle.tag_model.proofs.ScanRow.{reading_fits}
+use Rattle.tag_model.proofs.SweepSteps.{left_begins_pass, without_not_longer}
+use Rattle.module_list.proofs.Keeps.{dead_not_more as few_dead, scan_few}
 use Rattle.module_area.specs.declared.entry.Entry.{Entry}
 use Rattle.module_area.specs.declared.book.TheConstants.{BOOK_LIMIT}
 use Rattle.module_area.specs.Entries.{AreApart, IsFree, IsLoadedAs, is_loaded_as, meets, entered, left as one_left, kept}
@@ -26,7 +22,7 @@ use Rattle.module_area.proofs.EntryLemmas.{find_none}
 use Rattle.module_area.proofs.StartLemmas.{free_from_none}
 use Rattle.module_area.proofs.BookLemmas.{KeepsRange, IsBook-filter, IsBook-push}
 use Rattle.core_list.specs.declared.list.TheConstants.{LAST_ID}
-use Rattle.core_list.specs.ListState.{ListState, IsList, is_dead, record_of, records_of, left_ids, load_refusal, loaded, new_entry, or_zero, least_start, with_changed, entered_list, left_list, dead_list, swept_list, sum_read, scanned, scanned_at, released, released_at}
+use Rattle.core_list.specs.ListState.{ListState, IsList, record_of, records_of, left_ids, load_refusal, loaded, new_entry, or_zero, least_start, with_changed, entered_list, left_list, dead_list, swept_list, sum_read, scanned, scanned_at, released, released_at}
 use Rattle.core_list.proofs.Room.{may_load, least_is_free}
 
 -- a list by its parts
@@ -93,44 +89,10 @@ list_entered l id ok = list_changed l id entered keeps_entered ok
 pub list_left : (l : ListState) (id : ℕ) → IsList l → IsList (left_list id l)
 list_left l id ok = list_changed l id one_left keeps_left ok
 
--- ---- the ids that are left
-
-pub left_after_pass : (pass : Kind) (left : List ℕ) (records : List Record) → left_ids (after_pass pass left records) ≡ left
-left_after_pass pass [] records = refl
-left_after_pass Bytes (id ∷ left) records = refl
-left_after_pass Calls (id ∷ left) records = refl
-
-pub left_passes_record : (pass : Kind) (left : List ℕ) (records : List Record) (id : ℕ) → left_ids (passes_record pass left records id) ≡ left
-left_passes_record pass left records id = go (find (nat_lt id) left)
-  where
-    go : (o : Option ℕ) → left_ids (goes_on o pass left records) ≡ left
-    go None = left_after_pass pass left records
-    go (Some next) = refl
-
-pub left_begins_pass : (pass : Kind) (left : List ℕ) (records : List Record) → left_ids (begins_pass pass left records) ≡ left
-left_begins_pass pass [] records = refl
-left_begins_pass pass (id ∷ left) records = refl
-
-pub without_not_longer : (id : ℕ) (left : List ℕ) → length (without_id id left) ≤ length left
-without_not_longer id left = omega (arith, length-filter (λ other. not (other == id)) left, count_by-le-length (λ other. not (other == id)) left)
-
--- a list without one of its ids is shorter
-pub without_shorter : (id : ℕ) (left : List ℕ) → is_listed left id ≡ true → length (without_id id left) < length left
-without_shorter id [] e = absurd (false≢true e)
-without_shorter id (x ∷ xs) e = go (x == id) refl (listed_cons x xs id e) (λ later. without_shorter id xs later)
-  where
-    go : (b : Bool) → (x == id) ≡ b → (x ≡ id) ⊎ (is_listed xs id ≡ true) → (is_listed xs id ≡ true → length (without_id id xs) < length xs) → length (cond (not b) (x ∷ without_id id xs) (without_id id xs)) < length (x ∷ xs)
-    go true is listed later = omega (arith, without_not_longer id xs)
-    go false is (inl same) later = absurd (both_ways (x == id) is (eq-eqb x id same))
-    go false is (inr there) later = omega (arith, later there)
-
 -- ---- the dead, and a sweep of them
 
 pub dead_not_more : (entries : List Entry) → length (dead_ids (map record_of entries)) ≤ length entries
-dead_not_more entries =
-    let records = map record_of entries in
-    let ids : Record → ℕ = λ r. r.id in
-    omega (arith, length-map (filter (λ (r : Record). r.dead) records) ids, length-filter (λ (r : Record). r.dead) records, count_by-le-length (λ (r : Record). r.dead) records, length-map entries record_of)
+dead_not_more entries = omega (arith, few_dead (map record_of entries), length-map entries record_of)
 
 pub list_dead_marked : (l : ListState) (id : ℕ) → IsList l → IsList (dead_list id l)
 list_dead_marked l id ok =
@@ -144,24 +106,6 @@ list_swept l ok =
     record { book = ok.book; given = ok.given; last = ok.last; few = omega (arith, ok.book.few, dead_not_more l.area.entries) }
 
 -- ---- a read
-
--- a stop is added only where an id goes
-scan_few : (k : Shape) (records : List Record) (left : List ℕ) (r : Reader) (sum : ℕ) → is_listed left r.id ≡ true → length (stop_after k r sum) + length (left_ids (sweep_after k records left r sum)) ≤ length left
-scan_few k records left r sum listed = at_cpu (nat_lt (r.cpu + 1) k.cpus)
-  where
-    at_end : (b : Bool) → length (left_ids (cond b (sweep.Reading left (record r { tag = r.tag + 1; cpu = 0; sum = 0 })) (passes_record r.pass left records r.id))) ≤ length left
-    at_end true = omega arith
-    at_end false = omega (arith, ap length (left_passes_record r.pass left records r.id))
-
-    at_sum : (b : Bool) → length {A = Stop} (cond b (record { id = r.id; tag = r.tag; kind = r.pass; sum = sum } ∷ []) [])
-        + length (left_ids (cond b (passes_record r.pass (without_id r.id left) records r.id) (cond (nat_lt (r.tag + 1) (end_of r.id records)) (sweep.Reading left (record r { tag = r.tag + 1; cpu = 0; sum = 0 })) (passes_record r.pass left records r.id)))) ≤ length left
-    at_sum true = omega (arith, ap length (left_passes_record r.pass (without_id r.id left) records r.id), without_shorter r.id left listed)
-    at_sum false = omega (arith, at_end (nat_lt (r.tag + 1) (end_of r.id records)))
-
-    at_cpu : (b : Bool) → length {A = Stop} (cond (not b && not (sum == 0)) (record { id = r.id; tag = r.tag; kind = r.pass; sum = sum } ∷ []) [])
-        + length (left_ids (cond b (sweep.Reading left (record r { cpu = r.cpu + 1; sum = sum })) (cond (not (sum == 0)) (passes_record r.pass (without_id r.id left) records r.id) (cond (nat_lt (r.tag + 1) (end_of r.id records)) (sweep.Reading left (record r { tag = r.tag + 1; cpu = 0; sum = 0 })) (passes_record r.pass left records r.id))))) ≤ length left
-    at_cpu true = omega arith
-    at_cpu false = at_sum (not (sum == 0))
 
 pub list_scanned : (k : Shape) (word : ℕ) (l : ListState) → IsList l → sweep_fits k l.sweep (records_of l) ≡ true → IsList (scanned k word l)
 list_scanned k word l ok fits = go l.sweep ok.few fits
@@ -225,21 +169,3 @@ list_loaded l section size ok some none =
       last = omega (arith, ok.last);
       few = ok.few;
     }
-
--- ---- the dead among the first entries, and one more
-
-dead_push : (records : List Record) (r : Record) → dead_ids (records ++ r ∷ []) ≡ dead_ids records ++ cond r.dead (r.id ∷ []) []
-dead_push records r =
-    let id : Record → ℕ = λ x. x.id in
-    let dead : Record → Bool = λ x. x.dead in
-    ap (map id) (filter-append dead records (r ∷ [])) ∙ (map-append id (filter dead records) (filter dead (r ∷ [])) ∙ ap (λ ids. dead_ids records ++ ids) (go r.dead))
-  where
-    go : (b : Bool) → map (λ (x : Record). x.id) (cond b (r ∷ []) []) ≡ cond b (r.id ∷ []) []
-    go true = refl
-    go false = refl
-
-pub dead_more : (entries : List Entry) (i : ℕ) (e : Entry) → i < length entries → slice_get entries i ≡ Some e
-    → dead_ids (map record_of (take (i + 1) entries)) ≡ dead_ids (map record_of (take i entries)) ++ cond (is_dead e.state) (e.id ∷ []) []
-dead_more entries i e below here =
-    let is : get_or entries i e ≡ e = same_Some (get_or entries i e) e (sym (slice_get-get_or entries i e below) ∙ here) in
-    ap dead_ids (map_more record_of entries i e below ∙ ap (λ x. map record_of (take i entries) ++ record_of x ∷ []) is) ∙ dead_push (map record_of (take i entries)) (record_of e)

@@ -6,3 +6,4 @@ pub mod Refused
 pub mod Methods
 pub mod Ends
 pub mod Fits
+pub mod Listed

@@ -1,91 +1,130 @@
 -- What a method leaves in the parts of the list is what the change says.
-use Rattle.std.proofs.Common.{◌≡◌, ◌≢◌, ℕ, ◌+◌, ◌<◌, ◌≤◌, ◌==◌, ◌&&◌, nat_lt, List, [], ◌∷◌, ◌++◌, map, IsSomeAnd, refl, sym, ap, ◌∙◌, subst, arith, Bool, true, false, not, ne_eqb}
-use Rattle.std.specs.List.{list_any}
-use Rattle.std.proofs.lemmas.Bool.{and_parts, le-ltb, false≢true, not_from_false}
+use Rattle.std.proofs.Common.{◌≡◌, ℕ, ◌+◌, ◌<◌, ◌≤◌, ◌==◌, nat_lt, List, [], ◌∷◌, map, All, Option, None, Some, IsSome, IsSomeAnd, refl, sym, ap, ◌∙◌, subst, arith, Bool, true, false, cond, eq-eqb, lt-ltb}
+use Rattle.std.specs.List.{list_all}
+use Rattle.std.proofs.lemmas.Bool.{and_from, and_parts, or_left, false≢true}
+use Rattle.std.proofs.lemmas.List.Elements.{All-head, All-tail, All-weaker}
 use Rattle.tag_model.specs.declared.shape.Shape.{Shape}
-use Rattle.tag_model.specs.declared.state.Reader.{Reader}
 use Rattle.tag_model.specs.declared.state.Record.{Record}
-use Rattle.tag_model.specs.declared.state.Stop.{Stop}
 use Rattle.tag_model.specs.declared.state.Sweep.{Sweep}
 use Rattle.tag_model.specs.declared.state.Sweep.TheVariants as sweep
 use Rattle.tag_model.specs.Laws.{are_dead, sweep_fits}
-use Rattle.tag_model.specs.StepRules.{passes_record, stop_after, sweep_after, without_id}
-use Rattle.tag_model.specs.WordState.{in_range}
-use Rattle.tag_model.proofs.Found.{any_at}
-use Rattle.tag_model.proofs.Lists.{in_range_means}
-use Rattle.tag_model.proofs.ScanRow.{reading_fits}
+use Rattle.module_area.specs.declared.entry.Entry.{Entry}
 use Rattle.module_area.specs.declared.entry.State.{State}
 use Rattle.module_area.specs.declared.entry.State.TheVariants.{Loaded, Dead}
-use Rattle.module_area.specs.declared.book.TheConstants.{TAG_LIMIT}
-use Rattle.module_area.specs.Entries.{entry_of, without_entry}
-use Rattle.module_area.specs.Area.{Area, LiesIn, IsBook}
-use Rattle.core_list.specs.declared.list.Next.TheVariants.{Release}
-use Rattle.core_list.specs.declared.list.Stage.{Stage}
-use Rattle.core_list.specs.declared.list.Stage.TheVariants.{Idle, Reading, Done}
-use Rattle.core_list.specs.Stages.{sweep_of}
-use Rattle.core_list.specs.ListState.{record_of, is_dead, left_ids, next_of, released, scanned, sum_read}
-use Rattle.core_list.proofs.Kept.{list_of}
-use Rattle.core_list.proofs.Split.{the_entry, entry_holds}
+use Rattle.module_area.specs.Entries.{entry_of, is_dead, without_entry}
+use Rattle.module_area.specs.Area.{Area, IsBook}
+use Rattle.module_list.specs.Listing.{Listing, bare, bare_record, may_release, record_in, releasable}
+use Rattle.module_list.proofs.Bare.{fits_bare}
+use Rattle.core_list.specs.ListState.{ListState, left_ids, listed, record_of, released, released_at, scanned, scanned_at}
+use Rattle.core_list.proofs.Split.{the_entry}
 
-pub same_list : (a b : Area) (last : ℕ) (s t : Sweep) (x y : List Stop) → a ≡ b → s ≡ t → x ≡ y → list_of a last s x ≡ list_of b last t y
-same_list a b last s t x y areas sweeps stops = ap (λ z. list_of a last s z) stops ∙ (ap (λ z. list_of a last z y) sweeps ∙ ap (λ z. list_of z last t y) areas)
+-- the list by its fields
+abbrev pub state_of : Area → ℕ → Listing → ListState
+state_of area last list = record { area = area; last_id = last; sweep = list.sweep; stops = list.stops }
+
+-- what is kept at run time is what the list lists, without the users
+abbrev pub Keeps : Area → Listing → Type 0
+Keeps area list = list.records ≡ map bare_record (map record_of area.entries)
+
+pub kept_is : (area : Area) (last : ℕ) (list : Listing) → Keeps area list → list ≡ bare (listed (state_of area last list))
+kept_is area last list keeps = ap (λ rs. let x : Listing = record { records = rs; sweep = list.sweep; stops = list.stops } in x) keeps
+
+-- a change of both
+pub goes_along : (l m : ListState) (old new : Listing) (change : Listing → Listing) → old ≡ bare (listed l) → new ≡ change old → listed m ≡ change (listed l) → bare (change (listed l)) ≡ change (bare (listed l)) → new ≡ bare (listed m)
+goes_along l m old new change was is same along = is ∙ (ap change was ∙ (sym along ∙ ap bare (sym same)))
+
+-- the fields are then those of the list after the change
+pub fields_are : (m : ListState) (area : Area) (last : ℕ) (new : Listing) → ◌≡◌ {A = Area} area m.area → last ≡ m.last_id → new ≡ bare (listed m) → ◌≡◌ {A = ListState} (state_of area last new) m
+fields_are m area last new areas lasts is = ap (state_of area last) is ∙ (ap (λ n. state_of area n (bare (listed m))) lasts ∙ ap (λ a. state_of a m.last_id (bare (listed m))) areas)
+
+pub still_kept : (m : ListState) (area : Area) (new : Listing) → ◌≡◌ {A = Area} area m.area → new ≡ bare (listed m) → Keeps area new
+still_kept m area new areas is = ap (λ (x : Listing). x.records) is ∙ ap (λ (a : Area). map bare_record (map record_of a.entries)) (sym areas)
 
 -- ---- the release
-
-pub record Releasing (stage : Stage) (left : List ℕ) (id : ℕ) : Type 0 where
-  pub rest : List ℕ
-  pub stage_is : stage ≡ Done
-  pub left_is : left ≡ id ∷ rest
-
-pub releasing : (stage : Stage) (left : List ℕ) (id : ℕ) → Release id ≡ next_of (sweep_of stage left) → Releasing stage left id
-releasing Idle left id e = absurd (cc)
-releasing (Reading r) left id e = absurd (cc)
-releasing Done [] id e = absurd (cc)
-releasing Done (x ∷ rest) id e = let same : x ≡ id = cc in record { rest = rest; stage_is = refl; left_is = ap (λ y. y ∷ rest) same }
 
 dead_means : (s : State) → is_dead s ≡ true → s ≡ Dead
 dead_means Loaded e = absurd (false≢true e)
 dead_means Dead e = refl
 
 -- the module that is released is dead
-pub releases_dead : (area : Area) (stage : Stage) (left : List ℕ) (id : ℕ) → IsBook area → Releasing stage left id → are_dead (left_ids (sweep_of stage left)) (map record_of area.entries) ≡ true
-    → IsSomeAnd (entry_of area.entries id) (λ e. e.state ≡ Dead)
-releases_dead area stage left id book r dead =
-    let at_stage = subst (λ s. are_dead (left_ids (sweep_of s left)) (map record_of area.entries) ≡ true) r.stage_is dead in
-    let all = subst (λ ids. are_dead ids (map record_of area.entries) ≡ true) r.left_is at_stage in
-    let one = the_entry area id (λ (x : Record). x.dead) book (and_parts _ (are_dead r.rest (map record_of area.entries)) all).0 in
+pub releases_dead : (area : Area) (s : Sweep) (id : ℕ) (rest : List ℕ) → IsBook area → s ≡ sweep.Done (id ∷ rest) → are_dead (left_ids s) (map record_of area.entries) ≡ true → IsSomeAnd (entry_of area.entries id) (λ e. e.state ≡ Dead)
+releases_dead area s id rest book done dead =
+    let all = subst (λ x. are_dead (left_ids x) (map record_of area.entries) ≡ true) done dead in
+    let one = the_entry area id (λ (x : Record). x.dead) book (and_parts _ (are_dead rest (map record_of area.entries)) all).0 in
     subst (λ o. IsSomeAnd o (λ e. e.state ≡ Dead)) (sym one.is) (dead_means one.entry.state one.passes)
 
-pub released_as : (area new : Area) (last : ℕ) (stage : Stage) (left items : List ℕ) (stops : List Stop) (id : ℕ) → Releasing stage left id
-    → ◌≡◌ {A = Area} new (record area { entries = without_entry id area.entries }) → items ≡ without_id id left → list_of new last (sweep_of stage items) stops ≡ released (list_of area last (sweep_of stage left) stops)
-released_as area new last stage left items stops id r areas kept =
-    subst (λ s. list_of new last (sweep_of s items) stops ≡ released (list_of area last (sweep_of s left) stops)) (sym r.stage_is)
-    (ap (λ ids. list_of new last (sweep.Done ids) stops) kept
-    ∙ (ap (λ a. list_of a last (sweep.Done (without_id id left)) stops) areas ∙
-    subst (λ ids. list_of (record area { entries = without_entry id area.entries }) last (sweep.Done (without_id id ids)) stops ≡ released (list_of area last (sweep.Done ids) stops)) (sym r.left_is) refl))
+-- the sweep that releases an id is done, and has it first on its list
+pub record Releasing (s : Sweep) (id : ℕ) : Type 0 where
+  pub rest : List ℕ
+  pub done : s ≡ sweep.Done (id ∷ rest)
+
+pub releasing : (s : Sweep) (id : ℕ) → Some id ≡ releasable s → Releasing s id
+releasing sweep.None id e = absurd (cc)
+releasing (sweep.Reading left r) id e = absurd (cc)
+releasing (sweep.Done []) id e = absurd (cc)
+releasing (sweep.Done (x ∷ rest)) id e = let same : x ≡ id = cc in record { rest = rest; done = ap (λ y. sweep.Done (y ∷ rest)) same }
+
+pub may_release_first : (s : Sweep) (id : ℕ) → Some id ≡ releasable s → may_release id s ≡ true
+may_release_first s id e = let first = releasing s id e in subst (λ x. may_release id x ≡ true) (sym first.done) (or_left _ _ (eq-eqb id id refl))
+
+-- what a release leaves of the area, and of the last id
+pub area_released : (l : ListState) (id : ℕ) (rest : List ℕ) → l.sweep ≡ sweep.Done (id ∷ rest) → ◌≡◌ {A = Area} (released l).area (record l.area { entries = without_entry id l.area.entries })
+area_released l id rest done = ap (λ s. (released_at l s).area) done
+
+pub last_released : (l : ListState) → (released l).last_id ≡ l.last_id
+last_released l = go l.sweep
+  where
+    go : (s : Sweep) → (released_at l s).last_id ≡ l.last_id
+    go sweep.None = refl
+    go (sweep.Reading left r) = refl
+    go (sweep.Done []) = refl
+    go (sweep.Done (id ∷ left)) = refl
 
 -- ---- a read
 
--- the tag that is read lies in the area
-pub tag_small : (k : Shape) (area : Area) (left : List ℕ) (r : Reader) → IsBook area → sweep_fits k (sweep.Reading left r) (map record_of area.entries) ≡ true → r.tag < TAG_LIMIT
-tag_small k area left r book fits =
-    let at = (reading_fits k left r (map record_of area.entries) fits).at in
-    let test : Record → Bool = λ x. (x.id == r.id) && in_range x.start x.length r.tag in
-    let there = subst (λ xs. list_any test xs ≡ true) (sym at.is) (any_at test at.front at.item at.back at.passes) in
-    let one = the_entry area r.id (λ (x : Record). in_range x.start x.length r.tag) book there in
-    let lies = entry_holds (λ e. LiesIn area e.start e.length) area.entries r.id one.entry book.in_area one.is in
-    omega (arith, in_range_means one.entry.start one.entry.length r.tag one.passes, lies.1, book.small)
+pub area_scanned : (k : Shape) (word : ℕ) (l : ListState) → ◌≡◌ {A = Area} (scanned k word l).area l.area
+area_scanned k word l = go l.sweep
+  where
+    go : (s : Sweep) → ◌≡◌ {A = Area} (scanned_at k word l s).area l.area
+    go sweep.None = refl
+    go (sweep.Done left) = refl
+    go (sweep.Reading left r) = refl
 
--- a read that finds something drops the module
-pub scan_drops : (k : Shape) (word : ℕ) (area : Area) (last : ℕ) (left : List ℕ) (r : Reader) (stops items : List Stop) (s : Sweep) → k.cpus ≤ r.cpu + 1 → sum_read r word ≢ 0
-    → s ≡ passes_record r.pass (without_id r.id left) (map record_of area.entries) r.id → items ≡ stops ++ record { id = r.id; tag = r.tag; kind = r.pass; sum = sum_read r word } ∷ []
-    → list_of area last s items ≡ scanned k word (list_of area last (sweep.Reading left r) stops)
-scan_drops k word area last left r stops items s at_last some passes pushed =
-    let records = map record_of area.entries in
-    let sum = sum_read r word in
-    let no_cpu : nat_lt (r.cpu + 1) k.cpus ≡ false = le-ltb (r.cpu + 1) k.cpus at_last in
-    let found : not (sum == 0) ≡ true = not_from_false (sum == 0) (ne_eqb sum 0 some) in
-    let stop : Stop = record { id = r.id; tag = r.tag; kind = r.pass; sum = sum } in
-    let after : sweep_after k records left r sum ≡ passes_record r.pass (without_id r.id left) records r.id = rw (no_cpu, found) refl in
-    let one : stop_after k r sum ≡ stop ∷ [] = rw (no_cpu, found) refl in
-    same_list area area last s (sweep_after k records left r sum) items (stops ++ stop_after k r sum) refl (passes ∙ sym after) (pushed ∙ ap (λ xs. stops ++ xs) (sym one))
+pub last_scanned : (k : Shape) (word : ℕ) (l : ListState) → (scanned k word l).last_id ≡ l.last_id
+last_scanned k word l = go l.sweep
+  where
+    go : (s : Sweep) → (scanned_at k word l s).last_id ≡ l.last_id
+    go sweep.None = refl
+    go (sweep.Done left) = refl
+    go (sweep.Reading left r) = refl
+
+-- the sweep fits what is kept
+pub fits_kept : (k : Shape) (area : Area) (list : Listing) → Keeps area list → sweep_fits k list.sweep (map record_of area.entries) ≡ true → sweep_fits k list.sweep list.records ≡ true
+fits_kept k area list keeps fits = ap (sweep_fits k list.sweep) keeps ∙ (fits_bare k list.sweep (map record_of area.entries) ∙ fits)
+
+-- ---- a load, and a dead mark
+
+all_below : (id : ℕ) (entries : List Entry) → All (λ e. e.id < id) entries → list_all (λ (r : Record). nat_lt r.id id) (map bare_record (map record_of entries)) ≡ true
+all_below id [] below = refl
+all_below id (e ∷ es) below = and_from _ _ (lt-ltb e.id id (All-head (λ x. x.id < id) e es below)) (all_below id es (All-tail (λ x. x.id < id) e es below))
+
+-- the next id is above all others
+pub ids_below : (area : Area) (last : ℕ) (list : Listing) → Keeps area list → All (λ e. e.id ≤ last) area.entries → list_all (λ (r : Record). nat_lt r.id (last + 1)) list.records ≡ true
+ids_below area last list keeps given =
+    subst (λ rs. list_all (λ (r : Record). nat_lt r.id (last + 1)) rs ≡ true) (sym keeps) (all_below (last + 1) area.entries (All-weaker (λ e. e.id ≤ last) (λ e. e.id < last + 1) (λ e h. omega arith) area.entries given))
+
+found_bare : (id : ℕ) (entries : List Entry) → IsSome (entry_of entries id) → IsSome (record_in id (map bare_record (map record_of entries)))
+found_bare id [] e = e
+found_bare id (x ∷ xs) e = go (x.id == id) e (λ later. found_bare id xs later)
+  where
+    go : (b : Bool) → IsSome (cond b (Some x) (entry_of xs id)) → (IsSome (entry_of xs id) → IsSome (record_in id (map bare_record (map record_of xs)))) → IsSome (cond b (Some (bare_record (record_of x))) (record_in id (map bare_record (map record_of xs))))
+    go true e later = refl
+    go false e later = later e
+
+some_of : (o : Option Entry) (P : Entry → Type 0) → IsSomeAnd o P → IsSome o
+some_of None P h = elim h [ ]
+some_of (Some e) P h = refl
+
+-- the id has a record
+pub has_record : (area : Area) (list : Listing) (id : ℕ) → Keeps area list → (P : Entry → Type 0) → IsSomeAnd (entry_of area.entries id) P → IsSome (record_in id list.records)
+has_record area list id keeps P h = subst (λ rs. IsSome (record_in id rs)) (sym keeps) (found_bare id area.entries (some_of (entry_of area.entries id) P h))

@@ -12,11 +12,11 @@ use Rattle.module_area.specs.declared.book.TheConstants.{BOOK_LIMIT}
 use Rattle.module_area.specs.declared.book.AreaError.{AreaError}
 use Rattle.module_area.specs.declared.book.AreaError.TheVariants.{SameName, BookFull, NoRoom, NoSection}
 use Rattle.module_area.specs.Entries.{IsFree, IsMet, IsLoadedAs, is_loaded_as, is_loaded_at, meets}
-use Rattle.module_area.specs.Area.{Area, LiesIn, IsLeastStart, HasNoRoom, IsFull, IsBook}
+use Rattle.module_area.specs.Area.{is_free_at, least_start, Area, LiesIn, IsLeastStart, HasNoRoom, IsFull, IsBook}
 use Rattle.module_area.proofs.EntryLemmas.{find_some, find_none}
 use Rattle.module_area.proofs.StartLemmas.{free_from_none, found, met_later}
 use Rattle.core_list.specs.declared.list.TheConstants.{LAST_ID}
-use Rattle.core_list.specs.ListState.{ListState, load_refusal, loaded_entry, is_some_entry, unless_room, is_free_at, least_start}
+use Rattle.core_list.specs.ListState.{ListState, load_refusal, loaded_entry, is_some_entry, unless_room}
 use Rattle.core_list.proofs.Kept.{find_unmet, loaded_means}
 
 -- ---- the first number of a range that passes a test

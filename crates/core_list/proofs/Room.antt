@@ -10,10 +10,10 @@ use Rattle.module_area.specs.declared.entry.Entry.{Entry}
 use Rattle.module_area.specs.declared.book.TheConstants.{BOOK_LIMIT}
 use Rattle.module_area.specs.declared.book.AreaError.TheVariants.{SameName, BookFull}
 use Rattle.module_area.specs.Entries.{meets}
-use Rattle.module_area.specs.Area.{Area}
+use Rattle.module_area.specs.Area.{is_free_at, least_start, Area}
 use Rattle.module_area.proofs.EntryLemmas.{find_some}
 use Rattle.core_list.specs.declared.list.TheConstants.{LAST_ID}
-use Rattle.core_list.specs.ListState.{ListState, record_of, load_refusal, loaded_entry, is_some_entry, unless_room, is_free_at, least_start}
+use Rattle.core_list.specs.ListState.{ListState, record_of, load_refusal, loaded_entry, is_some_entry, unless_room}
 
 -- ---- nothing refuses the load
 

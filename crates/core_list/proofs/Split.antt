@@ -1,22 +1,21 @@
 -- The entries of a book as records of the list: ids stand once and rise, and the entry of an id stands between others.
-use Rattle.std.proofs.Common.{◌≡◌, ℕ, suc, ◌+◌, ◌<◌, ◌≤◌, ◌==◌, List, [], ◌∷◌, ◌++◌, map, filter, count_by, sum_by, inl, inr, ◌&&◌, ◌||◌, Option, None, All, AllPairs, Some, refl, ap, ◌∙◌, subst, arith, Bool, true, false, not, cond, eqb-true, eq-eqb, ne_eqb, lt-ltb}
+use Rattle.std.proofs.Common.{◌≡◌, ℕ, suc, ◌<◌, ◌≤◌, ◌==◌, List, [], ◌∷◌, ◌++◌, map, filter, count_by, inl, inr, ◌&&◌, ◌||◌, All, AllPairs, Some, refl, ap, ◌∙◌, subst, arith, Bool, true, false, not, cond, eqb-true, ne_eqb, lt-ltb}
 use Rattle.std.specs.List.{list_any}
 use Rattle.std.proofs.lemmas.Bool.{and_from, and_parts, or_cases, false≢true, cond-true, cond-false}
 use Rattle.std.proofs.lemmas.List.{map-append}
 use Rattle.std.proofs.lemmas.List.Elements.{All-head, All-contains}
-use Rattle.std.proofs.lemmas.List.Sums.{sum_by-cons}
 use Rattle.std.proofs.lemmas.Option.{same_Some}
 use Rattle.tag_model.specs.declared.state.Record.{Record}
 use Rattle.tag_model.specs.Laws.{rises_from, ids_of}
-use Rattle.tag_model.specs.StepRules.{start_of, end_of}
-use Rattle.tag_model.proofs.Found.{Found, found_any, count_at}
-use Rattle.tag_model.proofs.Ids.{rises_cons, RangeOf, range_of}
+use Rattle.tag_model.proofs.Found.{found_any, count_at}
+use Rattle.tag_model.proofs.Ids.{rises_cons}
 use Rattle.tag_model.proofs.Lists.{Apart}
+use Rattle.tag_model.proofs.SweepSteps.{rises_apart, rises_none}
 use Rattle.module_area.specs.declared.entry.Entry.{Entry}
 use Rattle.module_area.specs.Entries.{entry_of, with_entry, without_entry}
 use Rattle.module_area.specs.Area.{Area, IsBook}
 use Rattle.module_area.proofs.EntryLemmas.{find_some}
-use Rattle.core_list.specs.ListState.{record_of, start_in, end_in}
+use Rattle.core_list.specs.ListState.{record_of}
 
 -- ---- ids that rise
 
@@ -30,34 +29,9 @@ ids_rise low (e ∷ es) above rising =
 pub book_rises : (area : Area) → IsBook area → rises_from 0 (ids_of (map record_of area.entries)) ≡ true
 book_rises area book = ids_rise 0 area.entries book.above_zero book.rising
 
-none_of_id : (id low : ℕ) (records : List Record) → id ≤ low → rises_from low (ids_of records) ≡ true → count_by (λ (r : Record). r.id == id) records ≡ 0
-none_of_id id low [] h e = refl
-none_of_id id low (r ∷ records) h e =
-    let both = rises_cons low r.id (ids_of records) e in
-    let none : cond {A = ℕ} (r.id == id) 1 0 ≡ 0 = cond-false (r.id == id) 1 0 (ne_eqb r.id id (λ same. omega (arith, both.0))) in
-    omega (arith, sum_by-cons (λ (x : Record). cond {A = ℕ} (x.id == id) 1 0) r records, none_of_id id r.id records (omega (arith, both.0)) both.1)
-
--- ids that rise stand once
-pub rising_apart : (low : ℕ) (records : List Record) → rises_from low (ids_of records) ≡ true → Apart records
-rising_apart low [] e id = omega arith
-rising_apart low (r ∷ records) e id =
-    let both = rises_cons low r.id (ids_of records) e in
-    go (r.id == id) refl both.1 (rising_apart r.id records both.1 id) (sum_by-cons (λ (x : Record). cond {A = ℕ} (x.id == id) 1 0) r records)
-  where
-    go : (b : Bool) → (r.id == id) ≡ b → rises_from r.id (ids_of records) ≡ true → count_by (λ (x : Record). x.id == id) records ≤ 1
-        → count_by (λ (x : Record). x.id == id) (r ∷ records) ≡ cond {A = ℕ} (r.id == id) 1 0 + count_by (λ (x : Record). x.id == id) records
-        → count_by (λ (x : Record). x.id == id) (r ∷ records) ≤ 1
-    go true is rises few count =
-        let same = eqb-true r.id id is in
-        let one : cond {A = ℕ} (r.id == id) 1 0 ≡ 1 = cond-true (r.id == id) 1 0 is in
-        omega (arith, none_of_id id r.id records (omega arith) rises)
-    go false is rises few count =
-        let none : cond {A = ℕ} (r.id == id) 1 0 ≡ 0 = cond-false (r.id == id) 1 0 is in
-        omega arith
-
 -- each id of a book's records stands once
 pub book_apart : (area : Area) → IsBook area → Apart (map record_of area.entries)
-book_apart area book = rising_apart 0 (map record_of area.entries) (book_rises area book)
+book_apart area book = rises_apart (map record_of area.entries) (book_rises area book)
 
 -- ---- the entry of an id among the others
 
@@ -123,12 +97,6 @@ records_without id (e ∷ es) = go (e.id == id) (records_without id es)
     go true later = later
     go false later = ap (λ rs. record_of e ∷ rs) later
 
--- where the record of an id starts and ends
-pub range_at : (entries : List Entry) (id : ℕ) (e : Entry) → Apart (map record_of entries) → EntryAt entries id e → RangeOf id (map record_of entries) (record_of e)
-range_at entries id e apart at =
-    let found : Found (λ (r : Record). r.id == id) (map record_of entries) = record { front = map record_of at.front; item = record_of e; back = map record_of at.back; is = records_at entries id e at; passes = eq-eqb e.id id at.same_id } in
-    range_of id (map record_of entries) apart found
-
 -- a record of an id that passes a test is that of the id's entry
 pub record TheEntry (entries : List Entry) (id : ℕ) (test : Record → Bool) : Type 0 where
   pub entry : Entry
@@ -144,7 +112,7 @@ the_entry_from low id test (x ∷ xs) rises there =
     go : (b : Bool) → (x.id == id) ≡ b → rises_from x.id (ids_of (map record_of xs)) ≡ true → ((b && test (record_of x)) || list_any (λ (r : Record). (r.id == id) && test r) (map record_of xs)) ≡ true
         → (list_any (λ (r : Record). (r.id == id) && test r) (map record_of xs) ≡ true → TheEntry xs id test) → TheEntry (x ∷ xs) id test
     go true is rises there later =
-        let none = none_of_id id x.id (map record_of xs) (omega (arith, eqb-true x.id id is)) rises in
+        let none = rises_none x.id id (map record_of xs) (omega (arith, eqb-true x.id id is)) rises in
         record {
           entry = x;
           is = cond-true (x.id == id) (Some x) (entry_of xs id) is;
@@ -161,33 +129,6 @@ the_entry_from low id test (x ∷ xs) rises there =
 
 pub the_entry : (area : Area) (id : ℕ) (test : Record → Bool) → IsBook area → list_any (λ (r : Record). (r.id == id) && test r) (map record_of area.entries) ≡ true → TheEntry area.entries id test
 the_entry area id test book there = the_entry_from 0 id test area.entries (book_rises area book) there
-
--- where an id has no entry, none of the records has it
-none_there : (f : Record → ℕ) (id : ℕ) (entries : List Entry) → entry_of entries id ≡ None → sum_by (λ (r : Record). cond (r.id == id) (f r) 0) (map record_of entries) ≡ 0
-none_there f id [] none = refl
-none_there f id (x ∷ xs) none = go (x.id == id) refl none (λ later. none_there f id xs later)
-  where
-    go : (b : Bool) → (x.id == id) ≡ b → cond b (Some x) (entry_of xs id) ≡ None → (entry_of xs id ≡ None → sum_by (λ (r : Record). cond (r.id == id) (f r) 0) (map record_of xs) ≡ 0)
-        → sum_by (λ (r : Record). cond (r.id == id) (f r) 0) (map record_of (x ∷ xs)) ≡ 0
-    go true is none later = absurd (cc)
-    go false is none later =
-        let zero_here : cond {A = ℕ} (x.id == id) (f (record_of x)) 0 ≡ 0 = cond-false (x.id == id) (f (record_of x)) 0 is in
-        omega (arith, sum_by-cons (λ (r : Record). cond (r.id == id) (f r) 0) (record_of x) (map record_of xs), later none)
-
--- where the record of an id starts and ends, by its entry
-pub start_found : (area : Area) (id : ℕ) → IsBook area → start_of id (map record_of area.entries) ≡ start_in (entry_of area.entries id)
-start_found area id book = go (entry_of area.entries id) refl
-  where
-    go : (o : Option Entry) → entry_of area.entries id ≡ o → start_of id (map record_of area.entries) ≡ start_in o
-    go None is = none_there (λ r. r.start) id area.entries is
-    go (Some e) is = (range_at area.entries id e (book_apart area book) (book_entry_at area id e book is)).start
-
-pub end_found : (area : Area) (id : ℕ) → IsBook area → end_of id (map record_of area.entries) ≡ end_in (entry_of area.entries id)
-end_found area id book = go (entry_of area.entries id) refl
-  where
-    go : (o : Option Entry) → entry_of area.entries id ≡ o → end_of id (map record_of area.entries) ≡ end_in o
-    go None is = none_there (λ r. r.start + r.length) id area.entries is
-    go (Some e) is = (range_at area.entries id e (book_apart area book) (book_entry_at area id e book is)).end
 
 -- what holds of each entry holds of that of an id
 pub entry_holds : (P : Entry → Type 0) (entries : List Entry) (id : ℕ) (e : Entry) → All P entries → entry_of entries id ≡ Some e → P e

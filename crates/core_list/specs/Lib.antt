@@ -1,2 +1,1 @@
 pub mod ListState
-pub mod Stages

@@ -1,26 +1,29 @@
 -- The module list of the core: the book, the last id given, and the sweep with its stops. Each change of it is one step of the step rules.
-use Rattle.std.specs.Prelude.{ℕ, ◌+◌, ◌-◌, ◌*◌, ◌≤◌, ◌==◌, ◌&&◌, ◌||◌, not, nat_lt, nat_le, Bool, true, false, if◌then◌else◌, Option, Some, None, List, [], ◌∷◌, ◌++◌, length, map, sum_by, slice_get, All}
-use Rattle.std.specs.List.{find, list_any, range_with_len}
+use Rattle.std.specs.Prelude.{ℕ, ◌+◌, ◌*◌, ◌≤◌, ◌==◌, ◌||◌, Bool, true, false, if◌then◌else◌, Option, Some, None, List, [], ◌∷◌, ◌++◌, length, map, All}
+use Rattle.std.specs.List.{find}
 use Rattle.tag_model.specs.declared.shape.Shape.{Shape}
-use Rattle.tag_model.specs.declared.state.Kind.{Kind}
-use Rattle.tag_model.specs.declared.state.Kind.TheVariants.{Bytes, Calls}
+use Rattle.tag_model.specs.declared.state.Kind.TheVariants.{Bytes}
 use Rattle.tag_model.specs.declared.state.Run.{Run}
 use Rattle.tag_model.specs.declared.state.Record.{Record}
-use Rattle.tag_model.specs.declared.state.Reader.{Reader}
 use Rattle.tag_model.specs.declared.state.Stop.{Stop}
 use Rattle.tag_model.specs.declared.state.Sweep.{Sweep}
 use Rattle.tag_model.specs.declared.state.Sweep.TheVariants as sweep
 use Rattle.tag_model.specs.declared.state.ListPart.{ListPart}
-use Rattle.tag_model.specs.Wrap.{wrap}
+use Rattle.tag_model.specs.Sweeping as sweeping
+use Rattle.tag_model.specs.Sweeping.{ids_left, steps_left}
 use Rattle.tag_model.specs.StepRules.{begins_pass, sweep_after, stop_after, dead_ids, without_id}
+use Rattle.module_list.specs.Listing as listing
+use Rattle.module_list.specs.Listing.{Listing}
+pub use Rattle.module_list.specs.Listing.{found_at, sum_read}
 use Rattle.module_area.specs.declared.entry.Entry.{Entry}
-use Rattle.module_area.specs.declared.entry.State.{State}
-use Rattle.module_area.specs.declared.entry.State.TheVariants.{Loaded, Dead}
+use Rattle.module_area.specs.declared.entry.State.TheVariants.{Loaded}
 use Rattle.module_area.specs.declared.book.AreaError.{AreaError}
 use Rattle.module_area.specs.declared.book.AreaError.TheVariants.{SameName, BookFull, NoRoom}
 use Rattle.module_area.specs.declared.book.TheConstants.{BOOK_LIMIT}
-use Rattle.module_area.specs.Entries.{meets, is_loaded_as, entry_of, with_entry, without_entry, entered, left, kept}
+pub use Rattle.module_area.specs.Entries.{is_dead}
+use Rattle.module_area.specs.Entries.{is_loaded_as, with_entry, without_entry, entered, left, kept}
 use Rattle.module_area.specs.Area.{Area, IsBook}
+pub use Rattle.module_area.specs.Area.{least_start}
 use Rattle.core_list.specs.declared.list.TheConstants.{LAST_ID}
 use Rattle.core_list.specs.declared.list.Next.{Next}
 use Rattle.core_list.specs.declared.list.Next.TheVariants.{Nothing, Read, Release}
@@ -33,10 +36,6 @@ pub record ListState : Type 0 where
 
 -- ---- as a part of the word state
 
-abbrev pub is_dead : State → Bool
-is_dead Loaded = false
-is_dead Dead = true
-
 abbrev pub record_of : Entry → Record
 record_of e = record { id = e.id; section = e.section; start = e.start; length = e.length; dead = is_dead e.state; users = e.users }
 
@@ -46,9 +45,12 @@ run_of e = record { id = e.id; section = e.section; start = e.start; length = e.
 abbrev pub records_of : ListState → List Record
 records_of l = map record_of l.area.entries
 
+abbrev pub listed : ListState → Listing
+listed l = record { records = records_of l; sweep = l.sweep; stops = l.stops }
+
 -- after so many reads, with these runs on their way
 abbrev pub list_part : ℕ → List Run → ListState → ListPart
-list_part reads away l = record { records = records_of l; sweep = l.sweep; stops = l.stops; reads = reads; away = away }
+list_part reads away l = listing.list_part reads away (listed l)
 
 -- ---- the module of a section
 
@@ -65,14 +67,6 @@ start_in None = 0
 start_in (Some e) = e.start
 
 -- ---- load
-
--- the `size` tags from the start on lie in the area, and no entry covers one of them
-abbrev pub is_free_at : Area → ℕ → ℕ → Bool
-is_free_at area size start = nat_le (start + size) (area.first + area.tags) && not (list_any (λ e. meets e start size) area.entries)
-
--- the least such start, if there is one
-abbrev pub least_start : Area → ℕ → Option ℕ
-least_start area size = find (is_free_at area size) (range_with_len area.first (area.tags + 1))
 
 abbrev pub unless_room : Option ℕ → Option AreaError
 unless_room None = Some NoRoom
@@ -124,10 +118,6 @@ dead_list id l = let m = with_changed id kept l in record m { sweep = begins_pas
 abbrev pub swept_list : ListState → ListState
 swept_list l = record l { sweep = begins_pass Bytes (dead_ids (records_of l)) (records_of l); stops = [] }
 
--- a read adds a word to the sum
-abbrev pub sum_read : Reader → ℕ → ℕ
-sum_read r word = wrap (r.sum + word)
-
 abbrev pub scanned_at : Shape → ℕ → ListState → Sweep → ListState
 scanned_at k word l sweep.None = l
 scanned_at k word l (sweep.Done left) = l
@@ -137,12 +127,6 @@ scanned_at k word l (sweep.Reading left r) =
 -- the sweep reads a word
 abbrev pub scanned : Shape → ℕ → ListState → ListState
 scanned k word l = scanned_at k word l l.sweep
-
--- what a read finds, where it takes the module off the sweep's list
-abbrev pub found_at : Shape → ℕ → Sweep → Option Stop
-found_at k word sweep.None = None
-found_at k word (sweep.Done left) = None
-found_at k word (sweep.Reading left r) = slice_get (stop_after k r (sum_read r word)) 0
 
 abbrev pub released_at : ListState → Sweep → ListState
 released_at l sweep.None = l
@@ -163,10 +147,9 @@ next_of (sweep.Done (id ∷ left)) = Release id
 
 -- ---- what holds of every list
 
+-- the ids that are left on its list
 abbrev pub left_ids : Sweep → List ℕ
-left_ids sweep.None = []
-left_ids (sweep.Reading left r) = left
-left_ids (sweep.Done left) = left
+left_ids s = ids_left s
 
 pub record IsList (l : ListState) : Type 0 where
   pub book : IsBook l.area
@@ -182,30 +165,11 @@ fresh_list first tags = record { area = record { entries = []; first = first; ta
 
 -- the tags of the entries on a list of ids
 abbrev pub tags_of : List ℕ → List Entry → ℕ
-tags_of ids entries = sum_by (λ (e : Entry). if list_any (λ id. id == e.id) ids then e.length else 0) entries
-
--- those behind an id
-abbrev pub tags_behind : ℕ → List ℕ → List Entry → ℕ
-tags_behind id ids entries = sum_by (λ (e : Entry). if list_any (λ other. other == e.id) ids && nat_lt id e.id then e.length else 0) entries
-
-abbrev pub end_in : Option Entry → ℕ
-end_in None = 0
-end_in (Some e) = e.start + e.length
-
--- reads of the pass that is under way
-abbrev pub reads_in_pass : Shape → List ℕ → Reader → List Entry → ℕ
-reads_in_pass k left r entries = k.cpus * (tags_behind r.id left entries + (end_in (entry_of entries r.id) - r.tag)) - r.cpu
-
--- reads of the pass of calls, which comes behind that of bytes
-abbrev pub reads_behind : Shape → Kind → List ℕ → List Entry → ℕ
-reads_behind k Bytes left entries = k.cpus * tags_of left entries
-reads_behind k Calls left entries = 0
+tags_of ids entries = sweeping.tags_of ids (map record_of entries)
 
 -- at most so many steps are left: the reads, and a release of each entry on the list
 abbrev pub steps_at : Shape → List Entry → Sweep → ℕ
-steps_at k entries sweep.None = 0
-steps_at k entries (sweep.Reading left r) = reads_in_pass k left r entries + reads_behind k r.pass left entries + length left
-steps_at k entries (sweep.Done left) = length left
+steps_at k entries s = steps_left k (map record_of entries) s
 
 abbrev pub sweep_steps : Shape → ListState → ℕ
 sweep_steps k l = steps_at k l.area.entries l.sweep

@@ -29,8 +29,7 @@ use Rattle.module_area.specs.Entries.{entry_of}
 use Rattle.core_list.specs.declared.list.Next.TheVariants.{Release}
 use Rattle.core_list.specs.ListState.{ListState, found_at, left_ids, list_part, next_of, record_of, records_of, released, released_at, section_in}
 use Rattle.core_list.proofs.Changes.{row-releases}
-use Rattle.core_list.specs.declared.list.Stage.TheVariants.{Done}
-use Rattle.core_list.proofs.Methods.{releases_dead, releasing}
+use Rattle.core_list.proofs.Methods.{releases_dead}
 use Rattle.core_list.proofs.Split.{TheEntry, book_entry_at, records_at, the_entry}
 use Rattle.module_ops.specs.declared.event.Cause.{Cause}
 use Rattle.module_ops.specs.declared.event.Event.TheVariants.{Stepped}
@@ -88,7 +87,7 @@ module _ (s : CoreState) (core : IsCore s) (id : ℕ) (left : List ℕ) (is : s.
   dead =
       let l = s.modules.list in
       let listed : are_dead (id ∷ left) (records_of l) ≡ true = subst (λ x. are_dead (left_ids x) (records_of l) ≡ true) is (sweep_told s core).1 in
-      subst (λ o. IsSomeAnd o (λ (e : Entry). e.state ≡ Dead)) gone.is (releases_dead l.area Done (id ∷ left) id core.modules.list.book (releasing Done (id ∷ left) id refl) listed)
+      subst (λ o. IsSomeAnd o (λ (e : Entry). e.state ≡ Dead)) gone.is (releases_dead l.area (sweep.Done (id ∷ left)) id left core.modules.list.book refl listed)
 
   in_its_range : (tag : Tag) → gone.entry.start ≤ tag.number → tag.number < gone.entry.start + gone.entry.length → 0 < count_by (λ (r : Record). (r.id == id) && in_range r.start r.length tag.number) (records_of s.modules.list)
   in_its_range tag low high =

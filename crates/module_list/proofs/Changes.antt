@@ -1,5 +1,5 @@
 -- Each change of the list is a step of the step rules.
-use Rattle.std.proofs.Common.{◌≡◌, ℕ, ◌+◌, ◌<◌, ◌≤◌, ◌||◌, ◌⊎◌, nat_le, List, [], ◌∷◌, ◌++◌, count_by, slice_index, Some, refl, sym, ap, ◌∙◌, subst, inl, inr, arith, true, false, leb-true}
+use Rattle.std.proofs.Common.{◌≡◌, ℕ, ◌+◌, ◌-◌, ◌<◌, ◌≤◌, ◌||◌, ◌⊎◌, nat_le, List, [], ◌∷◌, ◌++◌, count_by, slice_index, Some, refl, sym, ap, ◌∙◌, subst, inl, inr, arith, true, false, leb-true}
 use Rattle.std.specs.List.{list_all}
 use Rattle.std.proofs.lemmas.Bool.{or_cases, cases_lt}
 use Rattle.tag_model.specs.declared.shape.Shape.{Shape}
@@ -54,6 +54,16 @@ row-leaves l reads id r ahead behind rises found =
     let at = record_at l.records id r rises found in
     let part : List Record → ListPart = λ rs. record { records = rs; sweep = l.sweep; stops = l.stops; reads = reads; away = ahead ++ behind } in
     record { front = at.front; entry = r; back = at.back; ahead = ahead; behind = behind; there = at.is; running = refl; after = ap part (at.changed left_record) }
+
+-- the record that it takes a user of, and what it leaves
+pub leaves_entry : (l : Listing) (reads id : ℕ) (r : Record) (ahead behind : List Run) (rises : rises_from 0 (ids_of l.records) ≡ true) (found : record_in id l.records ≡ Some r) → (row-leaves l reads id r ahead behind rises found).entry ≡ r
+unfolding row-leaves
+leaves_entry l reads id r ahead behind rises found = refl
+
+pub leaves_after : (l : Listing) (reads id : ℕ) (r : Record) (ahead behind : List Run) (rises : rises_from 0 (ids_of l.records) ≡ true) (found : record_in id l.records ≡ Some r) → let base = row-leaves l reads id r ahead behind rises found in
+    list_part reads (ahead ++ behind) (left id l) ≡ record { records = base.front ++ record base.entry { users = base.entry.users - 1 } ∷ base.back; sweep = l.sweep; stops = l.stops; reads = reads; away = ahead ++ behind }
+unfolding row-leaves
+leaves_after l reads id r ahead behind rises found = (row-leaves l reads id r ahead behind rises found).after
 
 pub row-marks_dead : (l : Listing) (reads id : ℕ) (r : Record) (away : List Run) → rises_from 0 (ids_of l.records) ≡ true → record_in id l.records ≡ Some r → r.dead ≡ false → r.users ≡ 0 → MarksDead (list_part reads away l) (list_part reads away (marked_dead id l))
 row-marks_dead l reads id r away rises found is_loaded unused =

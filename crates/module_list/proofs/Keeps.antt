@@ -82,13 +82,16 @@ keeps_swept l ok =
 -- ---- a read
 
 -- a stop is added only where an id goes
-scan_few : (k : Shape) (records : List Record) (left : List ℕ) (r : Reader) (sum : ℕ) → is_listed left r.id ≡ true → ScanLeaves k records left r sum → length (stop_after k r sum) + length (ids_left (sweep_after k records left r sum)) ≤ length left
-scan_few k records left r sum listed (ScanLeaves.goes_on stays none) =
-    let stops : length (stop_after k r sum) ≡ 0 = ap length none in
-    omega (arith, ap length stays)
-scan_few k records left r sum listed (ScanLeaves.drops goes stop some) =
-    let stops : length (stop_after k r sum) ≡ 1 = ap length stop in
-    omega (arith, ap length goes, without_shorter r.id left listed)
+pub scan_few : (k : Shape) (records : List Record) (left : List ℕ) (r : Reader) (sum : ℕ) → is_listed left r.id ≡ true → length (stop_after k r sum) + length (ids_left (sweep_after k records left r sum)) ≤ length left
+scan_few k records left r sum listed = go (scan_leaves k records left r sum)
+  where
+    go : ScanLeaves k records left r sum → length (stop_after k r sum) + length (ids_left (sweep_after k records left r sum)) ≤ length left
+    go (ScanLeaves.goes_on stays none) =
+        let stops : length (stop_after k r sum) ≡ 0 = ap length none in
+        omega (arith, ap length stays)
+    go (ScanLeaves.drops goes stop some) =
+        let stops : length (stop_after k r sum) ≡ 1 = ap length stop in
+        omega (arith, ap length goes, without_shorter r.id left listed)
 
 pub keeps_scanned : (k : Shape) (word : ℕ) (l : Listing) → IsListing l → sweep_fits k l.sweep l.records ≡ true → IsListing (scanned k word l)
 keeps_scanned k word l ok fits = go l.sweep ok.room fits
@@ -102,7 +105,7 @@ keeps_scanned k word l ok fits = go l.sweep ok.room fits
           few = ok.few;
           rises = ok.rises;
           ends = ok.ends;
-          room = omega (arith, length-append l.stops (stop_after k r sum), scan_few k l.records left r sum (reading_fits k left r l.records fits).listed (scan_leaves k l.records left r sum));
+          room = omega (arith, length-append l.stops (stop_after k r sum), scan_few k l.records left r sum (reading_fits k left r l.records fits).listed);
         }
 
 -- ---- a release

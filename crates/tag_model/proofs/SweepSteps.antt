@@ -49,7 +49,7 @@ tags_more : (p q : Record → Bool) (records : List Record) → ((r : Record) �
 tags_more p q records h = sum_by-le-sum_by (λ (r : Record). if p r then r.length else 0) (λ (r : Record). if q r then r.length else 0) records (λ r. less_if (p r) (q r) r.length (h r))
 
 -- the record of an id, and where it stands
-abbrev HasId : ℕ → List Record → Type 0
+abbrev pub HasId : ℕ → List Record → Type 0
 HasId id records = Found (λ (r : Record). r.id == id) records
 
 same_id : (id : ℕ) (records : List Record) (f : HasId id records) → f.item.id ≡ id
@@ -106,7 +106,7 @@ starts_at_most k pass records left id most apart dead listed few =
     let tags : tags_behind id left records + (end_of id records - start_of id records) ≤ most = omega (arith, few f, range.start, range.end) in
     omega (arith, mul-le-mul_left k.cpus tags)
 
-begins_at_most : (k : Shape) (pass : Kind) (records : List Record) (left : List ℕ) → Apart records → are_dead left records ≡ true → reads_left k records (begins_pass pass left records) ≤ k.cpus * tags_of left records + reads_behind k pass left records
+pub begins_at_most : (k : Shape) (pass : Kind) (records : List Record) (left : List ℕ) → Apart records → are_dead left records ≡ true → reads_left k records (begins_pass pass left records) ≤ k.cpus * tags_of left records + reads_behind k pass left records
 begins_at_most k pass records [] apart dead = omega arith
 begins_at_most k pass records (id ∷ left) apart dead =
     let listed : is_listed (id ∷ left) id ≡ true = or_left _ _ (eq-eqb id id refl) in
@@ -238,7 +238,7 @@ read_falls k records left r sum apart fits = at_cpu (nat_lt (r.cpu + 1) k.cpus)
 -- ---- the rows
 
 -- where ids rise, no id stands twice
-rises_none : (low id : ℕ) (records : List Record) → id ≤ low → rises_from low (ids_of records) ≡ true → count_by (λ (r : Record). r.id == id) records ≡ 0
+pub rises_none : (low id : ℕ) (records : List Record) → id ≤ low → rises_from low (ids_of records) ≡ true → count_by (λ (r : Record). r.id == id) records ≡ 0
 rises_none low id [] h e = refl
 rises_none low id (r ∷ records) h e =
     let both = rises_cons low r.id (ids_of records) e in
@@ -286,7 +286,7 @@ pub sweeps_list_all : (old new : ListPart) → Sweeps old new → ids_left new.s
 sweeps_list_all old new row = ap (λ (l : ListPart). ids_left l.sweep) row.after ∙ left_begins_pass Bytes (dead_ids old.records) old.records
 
 -- the tags of one record
-tags_of_one : (records : List Record) (id : ℕ) (f : HasId id records) → Apart records → tags_of (id ∷ []) records ≤ f.item.length
+pub tags_of_one : (records : List Record) (id : ℕ) (f : HasId id records) → Apart records → tags_of (id ∷ []) records ≤ f.item.length
 tags_of_one records id f apart =
     let one = subst (λ xs. count_by (λ (x : Record). x.id == id) xs ≤ 1) f.is (apart id) in
     let field = subst (λ xs. sum_by (λ (x : Record). if x.id == id then x.length else 0) xs ≡ f.item.length) (sym f.is) (field_here (λ (x : Record). x.length) f.front f.item f.back id (same_id id records f) one) in

@@ -1,38 +1,31 @@
-use Rattle.std.proofs.Common.{◌≡◌, ℕ, ◌==◌, not, rules, sym, ap, ◌∙◌, subst, arith, IsTrue}
-use Rattle.std.proofs.lemmas.Fn.{filter_same}
+use Rattle.std.proofs.Common.{sym, ◌∙◌, subst, IsTrue}
 use Rattle.tag_model.specs.Laws.{are_dead}
-use Rattle.tag_model.specs.StepRules.{without_id}
-use Rattle.core_list.specs.declared.list.Next.TheVariants.{Release}
-use Rattle.core_list.specs.ListState.{ListState, IsList, left_ids, next_of, records_of, released}
-use Rattle.core_list.specs.Stages.{sweep_of}
-use Rattle.core_list.proofs.Kept.{list_of, list_released}
-use Rattle.core_list.proofs.Methods.{releasing, releases_dead, released_as}
+use Rattle.module_list.specs.Listing as listing
+use Rattle.module_list.specs.Listing.{releasable}
+use Rattle.module_list.proofs.Bare.{bare_released}
+use Rattle.core_list.specs.ListState.{ListState, IsList, left_ids, listed, records_of, released}
+use Rattle.core_list.proofs.Kept.{list_released}
+use Rattle.core_list.proofs.Listed.{listed_released}
+use Rattle.core_list.proofs.Methods.{area_released, fields_are, goes_along, kept_is, last_released, may_release_first, releases_dead, releasing, state_of, still_kept}
 use Rattle.core_list.proofs.list.CoreList.release.Goals as goal
 
 pub release-requires : goal.release-requires
 release-requires c =
     let s = c.self.inside in
-    let next = subst (λ (l : ListState). Release c.in-Release.id ≡ next_of l.sweep) (sym c.self.view_is) c.in-Release.ensures in
     let dead = subst (λ (l : ListState). IsTrue (are_dead (left_ids l.sweep) (records_of l))) (sym c.self.view_is) c.requires in
-    releases_dead s.book s.stage s.left.items c.in-Release.id c.self.invariant.0.book (releasing s.stage s.left.items c.in-Release.id next) dead
+    let first = releasing s.list.sweep c.in-Some.id (sym c.in-Some.is ∙ c.releasable.ensures) in
+    releases_dead s.book s.list.sweep c.in-Some.id first.rest c.self.invariant.0.book first.done dead
 
--- the parts of the list behind the release
-dropped : (c : goal.After-retain) → list_of c.release.new.self c.self.inside.last_id (sweep_of c.self.inside.stage c.retain.new.self.items) c.self.inside.stops.items
-    ≡ released (list_of c.self.inside.book c.self.inside.last_id (sweep_of c.self.inside.stage c.self.inside.left.items) c.self.inside.stops.items)
-dropped c =
-    let kept : c.retain.new.self.items ≡ without_id c.in-Release.id c.self.inside.left.items = filter_same _ (λ (other : ℕ). not (other == c.in-Release.id)) _ (λ x b f' k. search rules) _ _ c.retain.ensures.filtered in
-    let next = subst (λ (l : ListState). Release c.in-Release.id ≡ next_of l.sweep) (sym c.self.view_is) c.in-Release.ensures in
-    let s = c.self.inside in
-    released_as s.book c.release.new.self s.last_id s.stage s.left.items c.retain.new.self.items s.stops.items c.in-Release.id (releasing s.stage s.left.items c.in-Release.id next) c.release.ensures.after kept
+pub release-requires-in-Some : goal.release-requires-in-Some
+release-requires-in-Some c = may_release_first c.self.inside.list.sweep c.in-Some.id (sym c.in-Some.is ∙ c.releasable.ensures)
 
 pub invariant_of-self : goal.invariant_of-self
 invariant_of-self c =
     let s = c.self.inside in
-    let l = list_of s.book s.last_id (sweep_of s.stage s.left.items) s.stops.items in (
-      subst IsList (sym (dropped c)) (list_released l c.self.invariant.0),
-      omega (arith, c.retain.ensures.capacity, c.self.invariant.1),
-      c.self.invariant.2,
+    let l = state_of s.book s.last_id s.list in
+    let first = releasing s.list.sweep c.in-Some.id (sym c.in-Some.is ∙ c.releasable.ensures) in
+    let area = c.release.ensures.after ∙ sym (area_released l c.in-Some.id first.rest first.done) in
+    let same = goes_along l (released l) s.list c.release-in-Some.new.self (listing.released c.in-Some.id) (kept_is s.book s.last_id s.list c.self.invariant.1) c.release-in-Some.ensures (listed_released l c.in-Some.id first.rest first.done) (bare_released (listed l) c.in-Some.id) in (
+      subst IsList (sym (fields_are (released l) c.release.new.self s.last_id c.release-in-Some.new.self area (sym (last_released l)) same)) (list_released l c.self.invariant.0),
+      still_kept (released l) c.release.new.self c.release-in-Some.new.self area same,
     )
-
-pub returns-in-Release : goal.returns-in-Release
-returns-in-Release c = dropped c ∙ ap released c.self.view_is

@@ -1,20 +1,23 @@
-use Rattle.std.proofs.Common.{map, refl, sym, ap, ◌∙◌, subst, arith}
-use Rattle.tag_model.specs.declared.state.Kind.TheVariants.{Bytes}
-use Rattle.tag_model.specs.StepRules.{begins_pass}
-use Rattle.core_list.specs.ListState.{IsList, record_of}
-use Rattle.core_list.specs.Stages.{sweep_of}
-use Rattle.core_list.proofs.Kept.{list_of, list_swept}
-use Rattle.core_list.proofs.Methods.{same_list}
+use Rattle.std.proofs.Common.{refl, sym, ap, ◌∙◌, subst}
+use Rattle.module_list.specs.Listing as listing
+use Rattle.module_list.proofs.Bare.{bare_swept}
+use Rattle.core_list.specs.ListState.{IsList, listed, swept_list}
+use Rattle.core_list.proofs.Kept.{list_swept}
+use Rattle.core_list.proofs.Methods.{fields_are, goes_along, kept_is, state_of, still_kept}
 use Rattle.core_list.proofs.list.CoreList.sweep.Goals as goal
 
 pub invariant_of-self : goal.invariant_of-self
 invariant_of-self c =
     let s = c.self.inside in
-    let l = list_of s.book s.last_id (sweep_of s.stage s.left.items) s.stops.items in
-    let records = map record_of s.book.entries in
-    let swept = ap (sweep_of c.begin-self-inside.result) (sym c.deref.ensures.value) ∙ (c.begin-self-inside.ensures ∙ ap (λ ids. begins_pass Bytes ids records) (c.deref.ensures.value ∙ c.list_dead.ensures.ids)) in
-    let same = same_list s.book s.book s.last_id _ _ _ _ refl swept c.clear.ensures.items in (
-      subst IsList (sym same) (list_swept l c.self.invariant.0),
-      c.list_dead.ensures.room,
-      omega (arith, c.clear.ensures.capacity, c.self.invariant.2),
+    let l = state_of s.book s.last_id s.list in
+    let same = goes_along l (swept_list l) s.list c.sweep.new.self listing.swept (kept_is s.book s.last_id s.list c.self.invariant.1) c.sweep.ensures refl (bare_swept (listed l)) in (
+      subst IsList (sym (fields_are (swept_list l) s.book s.last_id c.sweep.new.self (λ i. s.book) (λ i. s.last_id) same)) (list_swept l c.self.invariant.0),
+      still_kept (swept_list l) s.book c.sweep.new.self (λ i. s.book) same,
     )
+
+pub returns : goal.returns
+returns c =
+    let s = c.self.inside in
+    let l = state_of s.book s.last_id s.list in
+    let same = goes_along l (swept_list l) s.list c.sweep.new.self listing.swept (kept_is s.book s.last_id s.list c.self.invariant.1) c.sweep.ensures refl (bare_swept (listed l)) in
+    fields_are (swept_list l) s.book s.last_id c.sweep.new.self (λ i. s.book) (λ i. s.last_id) same ∙ ap swept_list c.self.view_is
