@@ -1,0 +1,4 @@
+pub mod Blocks
+pub mod Shown
+pub mod Paging
+pub mod Lending

@@ -1,0 +1,86 @@
+ghost use Rattle.std.specs.Prelude.{IfOk, None, length, ◌≡◌, ◌<◌};
+ghost use Rattle.tag_model.specs.declared.shape.Shape.{Shape};
+
+use crate::{Block, NoFrames, Node, Returned, alloc_pages, free_pages, take_back};
+use current_tag::Task;
+use std::alloc::{AllocError, Global};
+use std::test::Fail;
+use tag_model::shape::Shape;
+use tag_model::state::{Held, Kind, Tag};
+use tag_rule::{CpuSeat, Seats, make, read_own};
+
+// Threads may be handed the value.
+fn moves<T: Send>(_value: &T) {}
+
+/// Two CPUs of one table, each with its node of four frames.
+#[derive(Drop)]
+struct Desk {
+    near: CpuSeat,
+    far: CpuSeat,
+    node: Node,
+    far_node: Node,
+    ghost tables: { (far.board ≡ near.board) × (node.board ≡ near.board) × (far_node.board ≡ near.board) },
+    ghost numbers: { (near.part.number ≡ 0) × (far.part.number ≡ 1) × (node.node.cpu ≡ 0) × (far_node.node.cpu ≡ 1) },
+    ghost rests: { (near.part.hand ≡ None) × (far.part.hand ≡ None) },
+    ghost shape: { near.board.shape ≡ record { cpus = 2; tags = 4; kernel_tags = 4; frames = 4; vectors = 0 } },
+    ghost frames: { (length node.node.frames ≡ 4) × (length far_node.node.frames ≡ 4) },
+}
+
+fn new_desk(alloc: Global) -> Result<Desk, AllocError> {
+    let shape = Shape {
+        cpus: 2,
+        tags: 4,
+        kernel_tags: 4,
+        frames: 4,
+        vectors: 0,
+    };
+    let Seats {
+        mut cpus,
+        mut pages,
+        objects: _,
+        list: _,
+        loads: _,
+    } = make(alloc, shape)?;
+    let far = cpus.pop().unwrap();
+    let near = cpus.pop().unwrap();
+    let far_node = Node::new(alloc, 1, 4, pages.pop().unwrap())?;
+    let node = Node::new(alloc, 0, 4, pages.pop().unwrap())?;
+    Ok(Desk {
+        near,
+        far,
+        node,
+        far_node,
+    })
+}
+
+fn kernel(number: u32) -> Tag
+    ensures { result ≡ record { number = number; «module» = 0 } }
+{
+    Tag { number, module: 0 }
+}
+
+// CPU 1 frees a block of CPU 0. Its frames are free once it came home.
+#[test]
+fn remote_block(rt: HostRuntime) -> Result<(), Fail> {
+    let Desk {
+        mut near,
+        mut far,
+        mut node,
+        mut far_node,
+    } = new_desk(rt.alloc())?;
+    let mut task = Task::new();
+    let _hook = task.save(kernel(1));
+    let block = alloc_pages(&mut near, &mut node, &task, 2).expect(&rt, "four frames");
+    let returned = free_pages(&mut far, &mut far_node, block).expect(&rt, "of CPU 0");
+    let bytes = read_own(&mut far, 1, Kind::Bytes);
+    let calls = read_own(&mut far, 1, Kind::Calls);
+    assert_eq!(rt;
+        (bytes, calls),
+        (18446744073709535232, 18446744073709551615)
+    );
+    assert!(rt; alloc_pages(&mut near, &mut node, &task, 0).is_err());
+    take_back(&mut node, returned);
+    let block = alloc_pages(&mut near, &mut node, &task, 0).expect(&rt, "a frame");
+    assert_eq!(rt; block.frame(), 0);
+    Ok(())
+}
