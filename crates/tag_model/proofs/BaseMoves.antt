@@ -196,7 +196,7 @@ abbrev pub note_of : Record → Note
 note_of r = record { id = r.id; section = r.section; start = r.start; length = r.length; seen_dead = r.dead }
 
 -- a note that is the one of a record doesn't contradict it
-note_tells : (n : Note) (r : Record) → same_note n (note_of r) ≡ true → (n.id ≡ r.id) × (contradicts n r ≡ false)
+pub note_tells : (n : Note) (r : Record) → same_note n (note_of r) ≡ true → (n.id ≡ r.id) × (contradicts n r ≡ false)
 note_tells n r e =
     let f = and_parts ((n.id == r.id) && (n.section == r.section) && (n.start == r.start) && (n.length == r.length) && not (not (n.seen_dead) && r.dead)) (not (n.seen_dead && not r.dead)) e in
     let d = (and_parts ((n.id == r.id) && (n.section == r.section) && (n.start == r.start) && (n.length == r.length)) (not (not (n.seen_dead) && r.dead)) f.0).0 in

@@ -200,7 +200,7 @@ users_kept k l front entry back users was away ps qs b moves safe =
 -- ---- a CPU enters a module, or leaves it
 
 -- a run on a loaded record is that record's
-run_on_entry : (run : Run) (entry : Record) → same_run run (run_on entry) ≡ true → entry.dead ≡ false → is_loaded_as run entry ≡ true
+pub run_on_entry : (run : Run) (entry : Record) → same_run run (run_on entry) ≡ true → entry.dead ≡ false → is_loaded_as run entry ≡ true
 run_on_entry run entry e loaded =
     let d = and_parts ((run.id == entry.id) && (run.section == entry.section) && (run.start == entry.start)) (run.length == entry.length) e in
     let c = and_parts ((run.id == entry.id) && (run.section == entry.section)) (run.start == entry.start) d.0 in

@@ -20,8 +20,9 @@ use Rattle.tag_model.specs.declared.state.Run.{Run}
 use Rattle.tag_model.specs.declared.state.Sweep.{Sweep}
 use Rattle.tag_model.specs.declared.state.Sweep.TheVariants as sweep
 use Rattle.tag_model.specs.declared.state.Tag.{Tag}
+use Rattle.tag_model.specs.Histories.{stops_at}
 use Rattle.tag_model.specs.Laws.{Safe, OneOfEach, is_fresh, hand_number, is_held, is_idle, runs_of_cpu, cleared, of_reader, is_reading, same_kind, list_fits, same_run, same_note, contradicts}
-use Rattle.tag_model.specs.WordState.{one_if, Every, word_place, word_of, counted, counted_of, in_range, records_with, runs_with, notes_with, users_of, part_fits}
+use Rattle.tag_model.specs.WordState.{one_if, Every, word_place, word_of, counted, counted_of, in_range, records_with, runs_with, notes_with, users_of, part_fits, is_pass, next_id}
 use Rattle.tag_model.proofs.Bounds.{every_first, every_rest}
 
 -- a list that is as long as 0 is empty
@@ -70,28 +71,29 @@ record FreshList (l : ListPart) : Type 0 where
   records : l.records ≡ []
   away : l.away ≡ []
   sweep : l.sweep ≡ sweep.None
+  stops : l.stops ≡ []
 
 fresh_list : (k : Shape) (l : ListPart) → is_fresh k (Modules l) ≡ true → FreshList l
 fresh_list k l e =
     let s = and_parts ((length l.records == 0) && (length l.away == 0) && is_idle l.sweep) (length l.stops == 0) e in
     let f = and_parts ((length l.records == 0) && (length l.away == 0)) (is_idle l.sweep) s.0 in
     let g = and_parts (length l.records == 0) (length l.away == 0) f.0 in
-    record { records = empty l.records g.0; away = empty l.away g.1; sweep = no_sweep l.sweep f.1 }
+    record { records = empty l.records g.0; away = empty l.away g.1; sweep = no_sweep l.sweep f.1; stops = empty l.stops s.1 }
 
 -- ---- each number of a fresh part that the laws ask for is 0
 
 -- a number that each fresh part has as 0 is 0 in a fresh state
-none_fresh : (k : Shape) (f : Part → ℕ) (ps : List Part) → Every (is_fresh k) ps → ((p : Part) → is_fresh k p ≡ true → f p ≡ 0) → sum_by f ps ≡ 0
+pub none_fresh : (k : Shape) (f : Part → ℕ) (ps : List Part) → Every (is_fresh k) ps → ((p : Part) → is_fresh k p ≡ true → f p ≡ 0) → sum_by f ps ≡ 0
 none_fresh k f [] e h = refl
 none_fresh k f (p ∷ ps) e h = omega (arith, sum_by-cons f p ps, h p (every_first (is_fresh k) p ps e), none_fresh k f ps (every_rest (is_fresh k) p ps e) h)
 
-no_word : (k : Shape) (kind : Kind) (t : ℕ) (p : Part) → is_fresh k p ≡ true → word_of kind t p ≡ 0
+pub no_word : (k : Shape) (kind : Kind) (t : ℕ) (p : Part) → is_fresh k p ≡ true → word_of kind t p ≡ 0
 no_word k kind t (Cpu c) e = zeros c.words (word_place kind t) (fresh_cpu k c e).words
 no_word k kind t (Place n h) e = refl
 no_word k kind t (Modules l) e = refl
 no_word k kind t (NextId id) e = refl
 
-no_count : (k : Shape) (kind : Kind) (t : ℕ) (p : Part) → is_fresh k p ≡ true → counted kind t p ≡ 0
+pub no_count : (k : Shape) (kind : Kind) (t : ℕ) (p : Part) → is_fresh k p ≡ true → counted kind t p ≡ 0
 no_count k kind t (Cpu c) e = rw (fresh_cpu k c e).hand refl
 no_count k kind t (Place n h) e = rw (nothing_held h e) refl
 no_count k kind t (Modules l) e = refl
@@ -184,3 +186,28 @@ fresh_safe k ps each fresh = record {
     cleared = λ kind t h. none_fresh k (counted kind t) ps fresh (no_count k kind t);
   };
 }
+
+-- ---- what it has not
+
+no_stop : (k : Shape) (kind : Kind) (t : ℕ) (p : Part) → is_fresh k p ≡ true → stops_at kind t p ≡ 0
+no_stop k kind t (Cpu c) e = refl
+no_stop k kind t (Place n h) e = refl
+no_stop k kind t (Modules l) e = rw (fresh_list k l e).stops refl
+no_stop k kind t (NextId id) e = refl
+
+pub fresh_stops : (k : Shape) (ps : List Part) (kind : Kind) (t : ℕ) → Every (is_fresh k) ps → sum_by (stops_at kind t) ps ≡ 0
+fresh_stops k ps kind t fresh = none_fresh k (stops_at kind t) ps fresh (no_stop k kind t)
+
+-- each pass gives 1 as the first id
+first_ids : (k : Shape) (ps : List Part) → Every (is_fresh k) ps → sum_by next_id ps ≡ sum_by is_pass ps
+first_ids k [] e = refl
+first_ids k (p ∷ ps) e = omega (arith, sum_by-cons next_id p ps, sum_by-cons is_pass p ps, here p (every_first (is_fresh k) p ps e), first_ids k ps (every_rest (is_fresh k) p ps e))
+  where
+    here : (q : Part) → is_fresh k q ≡ true → next_id q ≡ is_pass q
+    here (Cpu c) f = refl
+    here (Place n h) f = refl
+    here (Modules l) f = refl
+    here (NextId id) f = eqb-true id 1 f
+
+pub fresh_first_id : (k : Shape) (ps : List Part) → OneOfEach k ps → Every (is_fresh k) ps → sum_by next_id ps ≡ 1
+fresh_first_id k ps each fresh = omega (arith, first_ids k ps fresh, each.pass)

@@ -17,10 +17,13 @@ pub mod NobodysWords
 pub mod Live
 pub mod LoadRow
 pub mod Moved
+mod OneCall
 pub mod Parts
 pub mod Passes
 pub mod PlaceRow
 pub mod Places
+pub mod PlainRelease
+pub mod PlainSums
 pub mod Records
 pub mod ReleaseRow
 pub mod ScanRow
@@ -37,3 +40,5 @@ pub mod Slots
 pub mod LiveLists
 pub mod OpMoves
 pub mod MovedWords
+mod WorkedSafe
+mod WorkedBroken

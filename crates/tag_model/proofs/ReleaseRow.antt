@@ -72,7 +72,7 @@ sum_others f id (r ∷ records) = go (not (r.id == id)) (sum_others f id records
     go false h = omega (arith, sum_by-cons f r records)
 
 -- a number that no record of the id has is the same without them
-sum_others_same : (f : Record → ℕ) (id : ℕ) (records : List Record) → ((r : Record) → r.id ≡ id → f r ≡ 0) → sum_by f (others id records) ≡ sum_by f records
+pub sum_others_same : (f : Record → ℕ) (id : ℕ) (records : List Record) → ((r : Record) → r.id ≡ id → f r ≡ 0) → sum_by f (others id records) ≡ sum_by f records
 sum_others_same f id [] none = refl
 sum_others_same f id (r ∷ records) none = go (not (r.id == id)) refl (sum_others_same f id records none)
   where

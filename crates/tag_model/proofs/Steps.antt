@@ -1,14 +1,18 @@
 -- Each step of the step rules, each base move, and a step with the base move that goes with it, leads from a safe state to a safe state.
-use Rattle.std.proofs.Common.{List}
+use Rattle.std.proofs.Common.{◌≡◌, ℕ, ◌+◌, List, ◌∷◌, ◌++◌, count_by, ap, arith, Bool, cond}
+use Rattle.std.proofs.lemmas.List.Sums.{sum_by-append, sum_by-cons}
 use Rattle.tag_model.specs.declared.shape.Shape.{Shape}
+use Rattle.tag_model.specs.declared.state.ListPart.{ListPart}
 use Rattle.tag_model.specs.declared.state.Part.{Part}
+use Rattle.tag_model.specs.declared.state.Run.{Run}
 use Rattle.tag_model.specs.Laws.{Safe}
 use Rattle.tag_model.specs.Shape.{IsChecked}
-use Rattle.tag_model.specs.StepRules.{Row, BaseMove, Becomes, Steps, StepsWith}
+use Rattle.tag_model.specs.StepRules.{Row, BaseMove, Becomes, EntersCpu, LeavesCpu, Steps, StepsWith, run_on}
 use Rattle.tag_model.proofs.BaseMoves.{safe-gives_run, safe-takes_run, safe-notes_record}
 use Rattle.tag_model.proofs.BookRows.{safe-sweeps, safe-enters, safe-leaves, safe-reorders_runs}
 use Rattle.tag_model.proofs.CpuRows.{safe-begins_allocation, safe-adds_bytes, safe-adds_call, safe-subtracts_bytes, safe-subtracts_call}
 use Rattle.tag_model.proofs.DeadRow.{safe-marks_dead}
+use Rattle.tag_model.proofs.Found.{sum_at}
 use Rattle.tag_model.proofs.LoadRow.{safe-loads}
 use Rattle.tag_model.proofs.PlaceRow.{safe-writes_place}
 use Rattle.tag_model.proofs.ReleaseRow.{safe-releases}
@@ -42,3 +46,25 @@ pub safe-steps_with : (k : Shape) (ps qs : List Part) → IsChecked k → StepsW
 safe-steps_with k ps qs ok (StepsWith.alone s) safe = step_is_safe k ps qs ok s safe
 safe-steps_with k ps qs ok (StepsWith.enters_cpu s) safe = safe-gives_run k s.outside s.inside s.entered s.after s.mid qs s.gives s.gives_state (safe-enters k s.before s.entered ps s.mid ok s.enters s.enters_state safe)
 safe-steps_with k ps qs ok (StepsWith.leaves_cpu s) safe = safe-leaves k s.leaving s.after s.mid qs ok s.leaves s.leaves_state (safe-takes_run k s.inside s.outside s.before s.leaving ps s.mid s.takes s.takes_state safe)
+
+-- ---- no run is left on its way
+
+-- the runs without the one that goes
+one_out : (test : Run → Bool) (ahead : List Run) (run : Run) (behind : List Run) → count_by test (ahead ++ run ∷ behind) ≡ cond {A = ℕ} (test run) 1 0 + count_by test (ahead ++ behind)
+one_out test ahead run behind = omega (arith, sum_at (λ (r : Run). cond {A = ℕ} (test r) 1 0) ahead run behind, sum_by-append (λ (r : Run). cond {A = ℕ} (test r) 1 0) ahead behind)
+
+pub enters_away : (old new : List Part) (s : EntersCpu old new) (test : Run → Bool) → count_by test s.after.away ≡ count_by test s.before.away
+enters_away old new s test =
+    let entered : count_by test s.entered.away ≡ count_by test (run_on s.enters.entry ∷ s.before.away) = ap (λ (l : ListPart). count_by test l.away) s.enters.after in
+    let split : count_by test s.entered.away ≡ count_by test (s.gives.ahead ++ s.gives.run ∷ s.gives.behind) = ap (count_by test) s.gives.away in
+    let after : count_by test s.after.away ≡ count_by test (s.gives.ahead ++ s.gives.behind) = ap (λ (l : ListPart). count_by test l.away) s.gives.list in
+    let same : cond {A = ℕ} (test s.gives.run) 1 0 ≡ cond {A = ℕ} (test (run_on s.enters.entry)) 1 0 = ap (λ r. cond {A = ℕ} (test r) 1 0) s.same_run in
+    omega (arith, entered, split, after, same, one_out test s.gives.ahead s.gives.run s.gives.behind, sum_by-cons (λ (r : Run). cond {A = ℕ} (test r) 1 0) (run_on s.enters.entry) s.before.away)
+
+pub leaves_away : (old new : List Part) (s : LeavesCpu old new) (test : Run → Bool) → count_by test s.after.away ≡ count_by test s.before.away
+leaves_away old new s test =
+    let taken : count_by test s.leaving.away ≡ count_by test (s.takes.run ∷ s.before.away) = ap (λ (l : ListPart). count_by test l.away) s.takes.list in
+    let split : count_by test s.leaving.away ≡ count_by test (s.leaves.ahead ++ run_on s.leaves.entry ∷ s.leaves.behind) = ap (count_by test) s.leaves.running in
+    let after : count_by test s.after.away ≡ count_by test (s.leaves.ahead ++ s.leaves.behind) = ap (λ (l : ListPart). count_by test l.away) s.leaves.after in
+    let same : cond {A = ℕ} (test s.takes.run) 1 0 ≡ cond {A = ℕ} (test (run_on s.leaves.entry)) 1 0 = ap (λ r. cond {A = ℕ} (test r) 1 0) s.same_run in
+    omega (arith, taken, split, after, same, one_out test s.leaves.ahead (run_on s.leaves.entry) s.leaves.behind, sum_by-cons (λ (r : Run). cond {A = ℕ} (test r) 1 0) s.takes.run s.before.away)

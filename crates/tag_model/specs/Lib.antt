@@ -12,3 +12,5 @@ pub mod RefMoves
 pub mod ListMachine
 pub mod Telling
 pub mod Sweeping
+pub mod Plainly
+pub mod Worked

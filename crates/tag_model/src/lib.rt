@@ -8,6 +8,7 @@ pub mod index;
 pub mod limits;
 pub mod list_machine;
 pub mod part_laws;
+pub mod plain_laws;
 pub mod ref_word;
 pub mod release_laws;
 pub mod safe_laws;
@@ -17,3 +18,4 @@ pub mod sum_laws;
 pub mod sweep_laws;
 #[cfg(test)]
 mod tests;
+pub mod worked_laws;

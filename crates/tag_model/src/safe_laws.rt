@@ -2,12 +2,13 @@
 //! The functions do nothing: what they promise are laws of the definitions.
 
 ghost use Rattle.std.specs.Prelude.{ℕ, ◌≡◌, Bool, List, [], ◌∷◌, count_by, sum_by};
-ghost use Rattle.tag_model.specs.Histories.{IsHistory, last_state};
+ghost use Rattle.tag_model.specs.Histories.{IsHistory, last_state, stops_at};
 ghost use Rattle.tag_model.specs.Laws.{OneOfEach, Safe, is_fresh};
 ghost use Rattle.tag_model.specs.Shape.{IsChecked};
-ghost use Rattle.tag_model.specs.StepRules.{BaseMove, Becomes, Steps, StepsWith};
-ghost use Rattle.tag_model.specs.WordState.{Every};
+ghost use Rattle.tag_model.specs.StepRules.{BaseMove, Becomes, EntersCpu, LeavesCpu, Steps, StepsWith};
+ghost use Rattle.tag_model.specs.WordState.{Every, counted, next_id, word_of};
 ghost use Rattle.tag_model.specs.declared.shape.Shape.{Shape};
+ghost use Rattle.tag_model.specs.declared.state.Kind.{Kind};
 ghost use Rattle.tag_model.specs.declared.state.ListPart.{ListPart};
 ghost use Rattle.tag_model.specs.declared.state.Part.TheVariants.{Modules};
 ghost use Rattle.tag_model.specs.declared.state.Part.{Part};
@@ -51,4 +52,18 @@ pub fn safe_in_any_order()
 /// The runs on their way may stand in any order.
 pub fn runs_on_their_way_stand_in_any_order()
     ensures { (k : Shape) (l : ListPart) (away : List Run) (old new : List Part) → ((test : Run → Bool) → count_by test away ≡ count_by test l.away) → Becomes (Modules l ∷ []) (Modules (record l { away = away }) ∷ []) old new → Safe k old → Safe k new }
+{}
+
+/// A fresh state gives 1 as its first id, has no stop, and in it every word is 0 and nothing is counted.
+pub fn a_fresh_state_has_nothing()
+    ensures first_id { (k : Shape) (parts : List Part) → OneOfEach k parts → Every (is_fresh k) parts → sum_by next_id parts ≡ 1 }
+    ensures no_stop { (k : Shape) (parts : List Part) (kind : Kind) (t : ℕ) → Every (is_fresh k) parts → sum_by (stops_at kind t) parts ≡ 0 }
+    ensures words { (k : Shape) (parts : List Part) (kind : Kind) (t : ℕ) → Every (is_fresh k) parts → sum_by (word_of kind t) parts ≡ 0 }
+    ensures counts { (k : Shape) (parts : List Part) (kind : Kind) (t : ℕ) → Every (is_fresh k) parts → sum_by (counted kind t) parts ≡ 0 }
+{}
+
+/// An enter whose run the CPU gets, and a leave of the run that left the CPU, leave the runs on their way as they were.
+pub fn no_run_is_left_on_its_way()
+    ensures enters { (old new : List Part) (s : EntersCpu old new) (test : Run → Bool) → count_by test s.after.away ≡ count_by test s.before.away }
+    ensures leaves { (old new : List Part) (s : LeavesCpu old new) (test : Run → Bool) → count_by test s.after.away ≡ count_by test s.before.away }
 {}

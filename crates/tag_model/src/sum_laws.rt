@@ -2,8 +2,9 @@
 //! what is live. The functions do nothing: what they promise are laws of the definitions.
 
 ghost use Rattle.std.specs.List.{list_all};
-ghost use Rattle.std.specs.Prelude.{ℕ, ◌≡◌, ◌<◌, ◌≤◌, ◌==◌, ◌^◌, IsTrue, List, [], ◌∷◌, count_by, sum_by};
+ghost use Rattle.std.specs.Prelude.{ℕ, ◌≡◌, ◌+◌, ◌<◌, ◌≤◌, ◌==◌, ◌^◌, IsTrue, List, [], ◌∷◌, count_by, sum_by};
 ghost use Rattle.tag_model.specs.Laws.{Safe, SumLaw, has_hand, is_held, live_of};
+ghost use Rattle.tag_model.specs.Plainly.{calls_in_hand};
 ghost use Rattle.tag_model.specs.Reference.{live_total};
 ghost use Rattle.tag_model.specs.Shape.{IsChecked};
 ghost use Rattle.tag_model.specs.StepRules.{AddsBytes, AddsCall, Becomes, BeginsAllocation, SubtractsBytes, SubtractsCall, WritesPlace};
@@ -41,4 +42,11 @@ pub fn quiet_sums_are_those_of_the_live_list()
 /// What is counted under a tag, by places and hands, is below 2^63: a word of 64 bits never loses it.
 pub fn what_is_counted_is_below_2_63()
     ensures { (k : Shape) (parts : List Part) (kind : Kind) (t : ℕ) → IsChecked k → Safe k parts → sum_by (counted kind t) parts < 2 ^ 63 }
+{}
+
+/// A sub-call takes just one call from the hand, and an add-call adds just one.
+pub fn a_step_on_a_call_word_counts_one_call()
+    ensures begins { (k : Shape) (tag : Tag) (old new : CpuPart) → BeginsAllocation k tag old new → calls_in_hand tag.number new.hand ≡ calls_in_hand tag.number old.hand + 1 }
+    ensures adds { (hand : Hand) (old new : CpuPart) → AddsCall hand old new → calls_in_hand hand.tag.number new.hand ≡ calls_in_hand hand.tag.number old.hand + 1 }
+    ensures subtracts { (hand : Hand) (old new : CpuPart) → SubtractsCall hand old new → calls_in_hand hand.tag.number new.hand + 1 ≡ calls_in_hand hand.tag.number old.hand }
 {}
