@@ -2,6 +2,8 @@
 #![tactic(auto)]
 
 pub mod laws;
+#[cfg(test)]
+mod tests;
 mod words;
 
 pub use words::{own_word, quiet_total};
