@@ -1,4 +1,4 @@
-ghost use Rattle.std.specs.Prelude.{ℕ, ◌≡◌, ◌%◌, ◌^◌, ◌≤◌, true, false, not, Some, IsTrue, ◌↔◌, slice_get, replicate, count_by, MatchOption, IfSome, IsNone, IfOk};
+ghost use Rattle.std.specs.Prelude.{ℕ, ◌≡◌, ◌%◌, ◌^◌, ◌≤◌, true, false, not, Some, IsTrue, ◌↔◌, length, slice_get, replicate, count_by, MatchOption, IfSome, IsNone, IfOk};
 ghost use Rattle.buddy.specs.Frames.{AllAre, HasNoStart, IsLeastStart, least_start, marked};
 
 use crate::bits::{flip, is_set, least_run};
@@ -70,6 +70,13 @@ impl Zone {
         ensures { IsTrue result ↔ (slice_get self.now frame ≡ Some true) }
     {
         frame < self.frames && !is_set(&self.words, frame)
+    }
+
+    /// How many frames there are.
+    pub fn frames(&self) -> u32
+        ensures { result ≡ length self.now }
+    {
+        self.frames
     }
 
     /// How many frames are free.

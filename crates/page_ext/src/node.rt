@@ -1,4 +1,4 @@
-ghost use Rattle.std.specs.Prelude.{ℕ, ◌≡◌, ◌<◌, ◌≤◌, IfOk, IsTrue, false, replicate};
+ghost use Rattle.std.specs.Prelude.{ℕ, ◌≡◌, ◌<◌, ◌≤◌, IfOk, IsTrue, false, length, replicate};
 ghost use Rattle.tag_model.specs.Index.{page_index};
 ghost use Rattle.tag_rule.specs.Shown.{has};
 
@@ -39,5 +39,12 @@ impl Node {
             zone: Zone::new(alloc, frames)?,
             pool,
         })
+    }
+
+    /// How many frames there are.
+    pub fn frames(&self) -> u32
+        ensures { result ≡ length self.now.node.frames }
+    {
+        self.zone.frames()
     }
 }
