@@ -37,15 +37,6 @@ not_outside section inside e = at (section == 0) refl e
     at true kernel e = inl (eqb-true section 0 kernel)
     at false other e = slot other (run_at inside section) refl e
 
--- an allocation that isn't refused is of the kernel's section, or of one whose module the CPU is inside
-pub open_not_outside : (places : List Held) (waiting : List Waiting) (inside : List (Option Run)) (key section : ℕ) → open_refusal places waiting inside key section ≡ None → is_outside section inside ≡ false
-open_not_outside places waiting inside key section none = go (is_used places waiting key) (is_outside section inside) none
-  where
-    go : (used out : Bool) → (if used then Some (KeyUsed key) else (if out then Some (NotRunning section) else None)) ≡ None → out ≡ false
-    go true out none = absurd (cc)
-    go false true none = absurd (cc)
-    go false false none = refl
-
 -- an allocation may begin under a tag of the kernel, or of the module that the CPU is inside; its number is one of the shape's
 pub begins_in : (s : CoreState) → IsCore s → (cpu : ℕ) → cpu < s.shape.cpus → (section index : ℕ) → index < section_len s.sections section → is_outside section (inside_at s.modules cpu) ≡ false
     → (may_begin s.shape (tag_in (inside_at s.modules cpu) section index) (runs_of s.modules cpu) ≡ true) × ((tag_in (inside_at s.modules cpu) section index).number < s.shape.tags)
@@ -71,40 +62,3 @@ begins_in s core cpu below section index has in_it = elim (not_outside section (
   where
     for_tag : {tag : Tag} (other : Tag) → tag ≡ other → (may_begin s.shape tag (runs_of s.modules cpu) ≡ true) × (tag.number < s.shape.tags) → (may_begin s.shape other (runs_of s.modules cpu) ≡ true) × (other.number < s.shape.tags)
     for_tag other same h = subst (λ (x : Tag). (may_begin s.shape x (runs_of s.modules cpu) ≡ true) × (x.number < s.shape.tags)) same h
-
--- the number of a tag where the CPU is outside is its index
-outside_tag : (section : ℕ) (inside : List (Option Run)) (index : ℕ) → is_outside section inside ≡ true → tag_in inside section index ≡ kernel_tag index
-outside_tag section inside index e = at (section == 0) (run_at inside section) e
-  where
-    at : (b : Bool) (o : Option Run) → (not b && not (is_some o)) ≡ true → (if b then kernel_tag index else module_tag o index) ≡ kernel_tag index
-    at true o e = refl
-    at false None e = refl
-    at false (Some r) e = absurd (false≢true e)
-
--- a tag's number is a 32-bit number, where the CPU isn't outside
-pub number_inside : (s : CoreState) → IsCore s → (cpu : ℕ) → cpu < s.shape.cpus → (section index : ℕ) → index < section_len s.sections section → is_outside section (inside_at s.modules cpu) ≡ false
-    → (tag_in (inside_at s.modules cpu) section index).number < 2 ^ 32
-number_inside s core cpu below section index has in_it = omega (arith, (begins_in s core cpu below section index has in_it).1, core.shape.few_tags)
-
--- and anywhere, where the section's tags are in their limits
-tag_limit_small : (section : ℕ) → tag_limit section < 2 ^ 32
-tag_limit_small section = go (section == 0)
-  where
-    go : (b : Bool) → (if b then KERNEL_TAG_LIMIT else MODULE_TAG_LIMIT) < 2 ^ 32
-    go true = omega arith
-    go false = omega arith
-
-tag_number : (s : CoreState) → IsCore s → (cpu : ℕ) → cpu < s.shape.cpus → AreSections s.sections → (section index : ℕ) → section < length s.sections → index < section_len s.sections section → (tag_in (inside_at s.modules cpu) section index).number < 2 ^ 32
-tag_number s core cpu below sections section index within has = elim (cases_Bool (is_outside section (inside_at s.modules cpu))) [
-  | inl out ↦ subst (λ (x : Tag). x.number < 2 ^ 32) (sym (outside_tag section (inside_at s.modules cpu) index out)) (omega (arith, sections.within_limits section within, tag_limit_small section))
-  | inr in_it ↦ number_inside s core cpu below section index has in_it
-]
-
-pub tag_fits : (s : CoreState) → IsCore s → (cpu : ℕ) → cpu < s.shape.cpus → AreSections s.sections → (op : CpuOp) → IsOp s.sections op → TagFits op (inside_at s.modules cpu)
-tag_fits s core cpu below sections (Open key section index size) ok = tag_number s core cpu below sections section index ok.has_section ok.in_section
-tag_fits s core cpu below sections (Close key) ok = tt
-tag_fits s core cpu below sections (Split key parts first) ok = tt
-tag_fits s core cpu below sections (Swap one two) ok = tt
-tag_fits s core cpu below sections (Trim key bytes) ok = tt
-tag_fits s core cpu below sections (Enter section) ok = tt
-tag_fits s core cpu below sections (Leave section) ok = tt

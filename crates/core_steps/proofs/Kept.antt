@@ -30,19 +30,13 @@ use Rattle.core_steps.specs.CoreState.{CoreState, AreModules, runs_in, runs_of, 
 use Rattle.cpu_ops.specs.Machine.{SectionsFit, TagFits, CanGo, CanStep}
 use Rattle.module_ops.specs.Modules.{ListFits, words_at}
 use Rattle.cpu_ops.specs.MayQueue.{IsOp}
-use Rattle.core_steps.proofs.Ready.{Next, next, others_ready, free_key, running_first}
+use Rattle.core_steps.proofs.Ready.{Next, next, others_ready, reserved as under_way_reserves, free_key, running_first}
 use Rattle.core_steps.proofs.Takes.{IsRuled, places_fit, leads_step, hand_seen, can_take, length-places_after, length-words_after}
 
 -- ---- keys
 
 reserved_after : (key done : ℕ) (op : CpuOp) (ops : List CpuOp) → reserves key (advanced (op ∷ ops) done) ≡ true → names_key key op ≡ true
 reserved_after key done op ops h = grind (arith, nat_tests)
-
-reserved_now : (key done : ℕ) (op : CpuOp) (ops : List CpuOp) → 0 < done → names_key key op ≡ true → reserves key (record { ops = op ∷ ops; done = done }) ≡ true
-reserved_now key done op ops some names = grind (arith, nat_tests)
-
-names_reserved : (key done : ℕ) (op : CpuOp) (ops : List CpuOp) → reserves key (record { ops = op ∷ ops; done = done }) ≡ true → names_key key op ≡ true
-names_reserved key done op ops h = grind (arith, nat_tests)
 
 module _ (cpus : ℕ) (sections : List Section) (scene : Scene) (m : Machine) (cpu : ℕ) (op : CpuOp) (ops : List CpuOp) (done : ℕ) (is : IsMachine cpus sections m) (below : cpu < cpus)
     (waits : waiting_at m cpu ≡ record { ops = op ∷ ops; done = done }) (free : done ≡ 0 → first_refusal m.places m.waiting scene op ≡ None)
@@ -53,7 +47,7 @@ module _ (cpus : ℕ) (sections : List Section) (scene : Scene) (m : Machine) (c
     | inl zero_done ↦
         let any = list_any_at (reserves key) m.waiting j nothing_waits (omega (arith, is.waiting)) reserved in
         let none = free_key m.places m.waiting scene op key (free zero_done) names in cc
-    | inr some ↦ is.apart cpu j key below within (λ e. apart (sym e)) (subst (λ (w : Waiting). reserves key w ≡ true) (sym waits) (reserved_now key done op ops (omega arith) names)) reserved
+    | inr some ↦ is.apart cpu j key below within (λ e. apart (sym e)) (subst (λ (w : Waiting). reserves key w ≡ true) (sym waits) (under_way_reserves key done op ops (omega arith) names)) reserved
   ]
 
   step : WordStep

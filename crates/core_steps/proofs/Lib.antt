@@ -26,3 +26,4 @@ pub mod InsideTags
 pub mod ManagerRelease
 pub mod ManagerTold
 pub mod SweepBounds
+pub mod Others

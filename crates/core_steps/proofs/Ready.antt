@@ -35,7 +35,7 @@ below_three P (suc (suc zero)) h a b c = c
 below_three P (suc (suc (suc n))) h a b c = absurd (omega arith)
 
 -- a key that an op under way names is reserved
-reserved : (key done : ℕ) (op : CpuOp) (ops : List CpuOp) → 0 < done → names_key key op ≡ true → reserves key (record { ops = op ∷ ops; done = done }) ≡ true
+pub reserved : (key done : ℕ) (op : CpuOp) (ops : List CpuOp) → 0 < done → names_key key op ≡ true → reserves key (record { ops = op ∷ ops; done = done }) ≡ true
 reserved key done op ops some names = grind (arith, nat_tests)
 
 same_key : (key : ℕ) → (key == key) ≡ true

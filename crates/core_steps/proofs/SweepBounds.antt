@@ -24,7 +24,7 @@ use Rattle.core_steps.proofs.ManagerLeft.{some_left}
 use Rattle.core_steps.proofs.ManagerRow.{managed_first}
 
 -- what the manager's step makes of the modules, by its ops
-managed_as : (s : CoreState) (m : Managing) → s.modules.manager ≡ m → (stepped s actor.Manager).modules ≡ managed_by s.shape s.sections s.words s.modules m.ops m.under_way
+pub managed_as : (s : CoreState) (m : Managing) → s.modules.manager ≡ m → (stepped s actor.Manager).modules ≡ managed_by s.shape s.sections s.words s.modules m.ops m.under_way
 managed_as s m is = ap (λ (x : Managing). managed_by s.shape s.sections s.words s.modules x.ops x.under_way) is
 
 -- ---- the first step
@@ -52,7 +52,7 @@ clean_of_nothing s ops is none =
 -- ---- further steps
 
 -- a further step isn't refused
-unrefused : (s : CoreState) → IsCore s → s.modules.manager.under_way ≡ true → manager_refusal s.sections s.modules ≡ None
+pub unrefused : (s : CoreState) → IsCore s → s.modules.manager.under_way ≡ true → manager_refusal s.sections s.modules ≡ None
 unrefused s core way = go s.modules.manager.ops refl
   where
     go : (ops : List ManagerOp) → s.modules.manager.ops ≡ ops → manager_refusal_in s.sections s.modules.list ops s.modules.manager.under_way ≡ None

@@ -8,7 +8,7 @@ use Rattle.core_steps.specs.declared.op.Actor.{Actor}
 use Rattle.core_steps.specs.declared.op.Actor.TheVariants as actor
 use Rattle.cpu_ops.specs.Machine.{Waiting, waiting_at, moves_of_step}
 use Rattle.module_ops.specs.Modules.{inside_at}
-use Rattle.core_steps.specs.CoreState.{CoreState, refused, stepped, run_of}
+use Rattle.core_steps.specs.CoreState.{CoreState, IsActor, ops_of, refused, stepped, run_of}
 
 -- the CPU's first op, of which it has taken so many steps
 abbrev pub waits_for : CpuOp → List CpuOp → ℕ → Waiting
@@ -36,3 +36,12 @@ moves_of_run s (a ∷ actors) = moves_of_actor s a ++ moves_of_run (stepped s a)
 -- the CPU counts a call more under the tag
 abbrev pub call_move : ℕ → Tag → Move
 call_move cpu tag = record { cpu = cpu; kind = Calls; tag = tag.number; up = 1; down = 0 }
+
+-- the actor's queue is as it was
+abbrev pub SameQueue : CoreState → CoreState → Actor → Type 0
+SameQueue old new (actor.Cpu cpu) = waiting_at new.machine cpu ≡ waiting_at old.machine cpu
+SameQueue old new actor.Manager = new.modules.manager ≡ old.modules.manager
+
+-- no actor has an op queued or under way
+abbrev pub IsIdle : CoreState → Type 0
+IsIdle s = (who : Actor) → IsActor s who → ops_of s who ≡ []

@@ -1,6 +1,6 @@
 //! Laws of every core. The functions do nothing: what they promise are facts of the definitions.
 
-ghost use Rattle.std.specs.Prelude.{◌≡◌, ℕ, ◌+◌, ◌-◌, ◌*◌, ◌<◌, ◌==◌, if◌then◌else◌, nat_lt, ◌≤◌, List, [], ◌∷◌, Some, None, true, false, length, replicate};
+ghost use Rattle.std.specs.Prelude.{◌≡◌, ◌≢◌, ℕ, ◌+◌, ◌-◌, ◌*◌, ◌<◌, ◌==◌, if◌then◌else◌, nat_lt, ◌≤◌, List, [], ◌∷◌, Some, None, true, false, length, replicate};
 ghost use Rattle.tag_model.specs.Laws.{live_of};
 ghost use Rattle.tag_model.specs.Reference.{live_total};
 ghost use Rattle.tag_model.specs.Wrap.{wrap};
@@ -20,7 +20,9 @@ ghost use Rattle.module_ops.specs.Modules.{inside_at};
 ghost use Rattle.core_steps.specs.declared.op.Actor.TheVariants as actor;
 ghost use Rattle.cpu_ops.specs.Machine.{hand_at, held_at, waiting_at, step_count, moves_of_step};
 ghost use Rattle.core_steps.specs.CoreState.{CoreState, IsCore, refused, stepped, word_state, total_of};
-ghost use Rattle.core_steps.specs.Laws.{Begins, waits_for, after_steps, moves_of_run, call_move};
+ghost use Rattle.core_steps.specs.declared.op.Actor.{Actor};
+ghost use Rattle.core_steps.specs.StepsLeft.{steps_left};
+ghost use Rattle.core_steps.specs.Laws.{Begins, IsIdle, SameQueue, waits_for, after_steps, moves_of_run, call_move};
 
 /// An op whose first step isn't refused takes just as many steps as are said of it, none of which is refused, and
 /// then the next op is the CPU's first.
@@ -56,4 +58,20 @@ pub fn a_split_adds_calls_and_no_bytes()
     ensures moves { (s : CoreState) (cpu key parts first size : ℕ) (tag : Tag) (ops : List CpuOp) → IsCore s → Begins s cpu (Split key parts first) ops → held_at s.machine.places key ≡ held.Counted tag size → moves_of_run s (replicate (2 * parts) (actor.Cpu cpu)) ≡ replicate (parts - 1) (call_move cpu tag) }
     ensures bytes { (s : CoreState) (cpu key parts first t : ℕ) (ops : List CpuOp) → IsCore s → Begins s cpu (Split key parts first) ops → live_total Bytes t (live_of (word_state (after_steps s cpu (2 * parts)))) ≡ live_total Bytes t (live_of (word_state s)) }
     ensures calls { (s : CoreState) (cpu key parts first size t : ℕ) (tag : Tag) (ops : List CpuOp) → IsCore s → Begins s cpu (Split key parts first) ops → held_at s.machine.places key ≡ held.Counted tag size → live_total Calls t (live_of (word_state (after_steps s cpu (2 * parts)))) ≡ live_total Calls t (live_of (word_state s)) + (if tag.number == t then parts - 1 else 0) }
+{}
+
+/// Step counts stay exact with other actors in between: a step leaves its CPU one step less and every other actor's queue
+/// as it was, and an op that is under way isn't refused.
+pub fn step_counts_hold_among_others()
+    ensures one_less { (s : CoreState) (cpu : ℕ) → IsCore s → refused s (actor.Cpu cpu) ≡ None → steps_left s (actor.Cpu cpu) ≡ steps_left (stepped s (actor.Cpu cpu)) (actor.Cpu cpu) + 1 }
+    ensures others { (s : CoreState) (who other : Actor) → other ≢ who → SameQueue s (stepped s who) other }
+    ensures under_way { (s : CoreState) (cpu done : ℕ) (op : CpuOp) (ops : List CpuOp) → waiting_at s.machine cpu ≡ waits_for op ops done → done ≢ 0 → refused s (actor.Cpu cpu) ≡ None }
+    ensures manager_under_way { (s : CoreState) → IsCore s → s.modules.manager.under_way ≡ true → refused s actor.Manager ≡ None }
+{}
+
+/// Where no actor has an op queued or under way, no CPU has a hand, and the words of a tag, added over the CPUs, are the
+/// bytes and the references of the live list, modulo 2^64.
+pub fn an_idle_core_is_quiet()
+    ensures hands { (s : CoreState) → IsCore s → IsIdle s → (cpu : ℕ) → cpu < s.shape.cpus → hand_at s.machine cpu ≡ None }
+    ensures totals { (s : CoreState) (kind : Kind) (t : ℕ) → IsCore s → IsIdle s → total_of s.words kind t ≡ wrap (live_total kind t (live_of (word_state s))) }
 {}

@@ -81,7 +81,10 @@ impl Core {
     pub fn new(alloc: Global, shape: Shape, sections: Sections) -> Result<Core, AllocError>
         requires shape { IsChecked shape }
         requires sections { SectionsFitShape shape sections }
-        ensures { IfOk result (λ core. core ≡ fresh shape sections) }
+        ensures value { IfOk result (λ core. core ≡ fresh shape sections) }
+        ensures safe { IfOk result (λ core. Safe shape (word_state core)) }
+        // It has moved nothing.
+        ensures moved { IfOk result (λ core. HasMoved core []) }
     {
         Ok(Core {
             shape,
@@ -94,6 +97,19 @@ impl Core {
 
     /// Puts the op behind those that the actor has queued or under way.
     pub fn queue(&mut self, actor: Actor, op: Op) -> Result<(), QueueError>
+        requires actor { IsActor self.old actor }
+        requires op { IsOpOf self.old.sections actor op }
+        ensures ok { OnOk result (self.new ≡ queued self.old actor op) }
+        ensures full { (result ≡ Err QueueError.QueueFull) ↔ (MAX_QUEUED ≤ length (ops_of self.old actor)) }
+        ensures err { OnErr result (self.new ≡ self.old) }
+        ensures safe { Safe self.new.shape (word_state self.new) }
+    {
+        let told = self.put(actor, op);
+        self.tell();
+        told
+    }
+
+    fn put(&mut self, actor: Actor, op: Op) -> Result<(), QueueError>
         requires actor { IsActor self.old actor }
         requires op { IsOpOf self.old.sections actor op }
         ensures ok { OnOk result (self.new ≡ queued self.old actor op) }

@@ -1,8 +1,8 @@
 //! Schedules whose words and events are known, played step by step.
 
 ghost use Rattle.std.specs.Prelude.{◌≡◌, ◌<◌, ◌≤◌, ◌&&◌, ℕ, nat_lt, length, IsTrue, IfOk};
-ghost use Rattle.cpu_ops.specs.MayQueue.{IsOp, IsModule, IsSplit};
-ghost use Rattle.module_ops.specs.Modules.{IsManagerOp};
+ghost use Rattle.core_steps.specs.CoreState.{IsOpOf};
+ghost use Rattle.cpu_ops.specs.MayQueue.{IsModule, IsSplit};
 ghost use Rattle.cpu_ops.specs.MayQueue.{section_len};
 
 use crate::machine::Core;
@@ -70,7 +70,7 @@ fn is_module(sections: &Sections, section: u32) -> bool
 
 /// Whether the op may be queued on a CPU.
 fn fits(sections: &Sections, op: Op) -> bool
-    ensures { IsTrue result → IsOp sections.now op }
+    ensures { IsTrue result → IsOpOf sections.now (Actor.Cpu 0) op }
 {
     match op {
         Op::Open {
@@ -96,7 +96,7 @@ fn fits(sections: &Sections, op: Op) -> bool
 
 /// Whether the op may be queued for the manager.
 fn manager_fits(sections: &Sections, op: Op) -> bool
-    ensures { IsTrue result → IsManagerOp sections.now op }
+    ensures { IsTrue result → IsOpOf sections.now Actor.Manager op }
 {
     match op {
         Op::Load { section } | Op::Unload { section } => is_module(sections, section),
