@@ -2,6 +2,7 @@
 #![tactic(auto)]
 
 mod faults;
+mod laws;
 mod memory;
 mod standard;
 #[cfg(test)]
@@ -10,6 +11,7 @@ mod traits;
 mod whole;
 
 pub use faults::{Failed, ReadError};
+pub use laws::{faults_are_counted, what_a_refused_reading_took, what_went_out_in_part};
 pub use memory::{MemSink, MemSource};
 pub use standard::{StdSink, StdSource};
 pub use traits::{Sink, Source};

@@ -112,3 +112,47 @@ unhooked_twice = Round (on 1 0 (Hook 0 0) ∷ on 2 0 Unhook ∷ on 3 0 Unhook �
 -- `load` twice
 abbrev pub loaded_twice : List Item
 loaded_twice = Load 1 2 ∷ Load 2 2 ∷ []
+
+-- `swap 1 2` on CPU 1: CPU 0 has named both keys
+abbrev pub both_shared : List Item
+both_shared = Round (on 1 0 (Page 1 0) ∷ on 2 0 (Page 2 0) ∷ on 3 1 (Swap 1 2) ∷ []) ∷ []
+
+-- `swap 1 2` on CPU 0: key 1 isn't bound, and CPU 1 has named key 2
+abbrev pub unbound_and_shared : List Item
+unbound_and_shared = Round (on 1 1 (Page 2 0) ∷ on 2 0 (Swap 1 2) ∷ []) ∷ []
+
+-- `swap 1 2`: neither key is bound
+abbrev pub both_unbound : List Item
+both_unbound = Round (on 1 0 (Swap 1 2) ∷ []) ∷ []
+
+-- `swap 1 2`: both keys are objects
+abbrev pub both_objects : List Item
+both_objects = Round (on 1 0 (Kmalloc 1 8) ∷ on 2 0 (Kmalloc 2 8) ∷ on 3 0 (Swap 1 2) ∷ []) ∷ []
+
+-- `swap 1 2`: both keys were trimmed
+abbrev pub both_trimmed : List Item
+both_trimmed = Round (on 1 0 (Page 1 1) ∷ on 2 0 (Page 2 1) ∷ on 3 0 (Trim 1 1) ∷ on 4 0 (Trim 2 1) ∷ on 5 0 (Swap 1 2) ∷ []) ∷ []
+
+-- `page 1 0` on CPU 1: CPU 0 has named the key, which is bound
+abbrev pub shared_and_bound : List Item
+shared_and_bound = Round (on 1 0 (Page 1 0) ∷ on 2 1 (Page 1 0) ∷ []) ∷ []
+
+-- `free 1` on CPU 1: CPU 0 has named the key two lines before
+abbrev pub shared_two_lines_before : List Item
+shared_two_lines_before = Round (on 1 0 (Page 1 0) ∷ on 2 0 (Page 2 0) ∷ on 3 1 (Free 1) ∷ []) ∷ []
+
+-- `free 1` on CPU 1, in the round after the one in which CPU 0 has named the key
+abbrev pub freed_in_the_next_round : List Item
+freed_in_the_next_round = Round (on 1 0 (Page 1 0) ∷ []) ∷ Round (on 2 1 (Free 1) ∷ []) ∷ []
+
+-- `split 1 1 2`: the block was trimmed, and the order isn't below its own
+abbrev pub trimmed_and_not_below : List Item
+trimmed_and_not_below = Round (on 1 0 (Page 1 1) ∷ on 2 0 (Trim 1 1) ∷ on 3 0 (Split 1 1 2) ∷ []) ∷ []
+
+-- `leave` of a module that this round unloads, and which the CPU isn't inside
+abbrev pub unloaded_and_outside : List Item
+unloaded_and_outside = Load 1 1 ∷ Round (on 2 0 (Unload 1) ∷ on 3 1 (Leave 1) ∷ []) ∷ []
+
+-- `unload` twice in a round
+abbrev pub unloaded_twice : List Item
+unloaded_twice = Load 1 1 ∷ Round (on 2 0 (Unload 1) ∷ on 3 1 (Unload 1) ∷ []) ∷ []

@@ -10,6 +10,7 @@ ghost use Rattle.round_check.specs.declared.walk.Walk.{Walk};
 ghost use Rattle.round_check.specs.Keys.{key_at};
 ghost use Rattle.round_check.specs.Rounds.{names_key, IsRound, IsLine};
 ghost use Rattle.round_check.specs.Rows.{verdict, shared_and_unbound, object_and_unbound, trimmed_and_object, orders_and_trimmed, orders_differ, order_not_below, keys_past_the_last, new_bound_and_shared, two_new_bound, split_onto_itself, pages_not_below, entered_and_busy, unloaded_and_absent, never_loaded, entered_twice, left_while_hooked, two_inside, hooked_too_deep, outside_and_deep, unhooked_twice, loaded_twice};
+ghost use Rattle.round_check.specs.Rows.{both_shared, unbound_and_shared, both_unbound, both_objects, both_trimmed, shared_and_bound, shared_two_lines_before, freed_in_the_next_round, trimmed_and_not_below, unloaded_and_outside, unloaded_twice};
 ghost use Rattle.round_check.specs.Walk.{rounds_of};
 
 /// In a round of a checked trace no two CPUs name one key, a key that is freed was bound, and a module that is
@@ -48,4 +49,19 @@ pub fn refusals_in_order()
     ensures not_inside { verdict outside_and_deep ≡ Err (2, code.NotInside 1) }
     ensures no_hook { verdict unhooked_twice ≡ Err (3, code.NoHook) }
     ensures already_loaded { verdict loaded_twice ≡ Err (2, code.AlreadyLoaded 2) }
+{}
+
+/// The same of both keys of a swap, of a key that several lines name, and of a module that a round unloads.
+pub fn refusals_of_a_line_in_order()
+    ensures shared_first { verdict both_shared ≡ Err (3, code.SharedKey 1) }
+    ensures shared_second { verdict unbound_and_shared ≡ Err (2, code.SharedKey 2) }
+    ensures no_key_first { verdict both_unbound ≡ Err (1, code.NoKey 1) }
+    ensures kind_first { verdict both_objects ≡ Err (3, code.Kind 1) }
+    ensures trimmed_first { verdict both_trimmed ≡ Err (5, code.Trimmed 1) }
+    ensures shared_before_bound { verdict shared_and_bound ≡ Err (2, code.SharedKey 1) }
+    ensures shared_after_others { verdict shared_two_lines_before ≡ Err (3, code.SharedKey 1) }
+    ensures next_round { verdict freed_in_the_next_round ≡ Ok tt }
+    ensures trimmed_before_orders { verdict trimmed_and_not_below ≡ Err (3, code.Trimmed 1) }
+    ensures unload_before_leave { verdict unloaded_and_outside ≡ Err (3, code.UnloadShared 1) }
+    ensures unload_again { verdict unloaded_twice ≡ Err (3, code.UnloadShared 1) }
 {}

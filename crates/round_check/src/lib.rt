@@ -8,7 +8,7 @@ mod laws;
 mod modules;
 mod walk;
 
-pub use laws::{refusals_in_order, rounds_that_passed};
+pub use laws::{refusals_in_order, refusals_of_a_line_in_order, rounds_that_passed};
 pub use walk::check_rounds;
 
 #[cfg(test)]
