@@ -4,3 +4,5 @@
 
 pub mod list;
 pub mod row_laws;
+#[cfg(test)]
+mod tests;
