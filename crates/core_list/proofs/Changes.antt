@@ -68,6 +68,11 @@ row-marks_dead l n id e away ok found is_loaded unused =
     let base = row.row-marks_dead (listed l) n id (record_of e) away (book_rises l.area ok.book) (record_found l.area.entries id e found) (ap is_dead is_loaded) unused in
     record { front = base.front; entry = base.entry; back = base.back; there = base.there; loaded = base.loaded; unused = base.unused; after = ap (listing.list_part n away) (listed_dead l id) ∙ base.after }
 
+-- the record that is marked is that of the id
+pub marks_id : (l : ListState) (n id : ℕ) (e : Entry) (away : List Run) (ok : IsList l) (found : entry_of l.area.entries id ≡ Some e) (is_loaded : e.state ≡ Loaded) (unused : e.users ≡ 0) → (row-marks_dead l n id e away ok found is_loaded unused).entry.id ≡ id
+unfolding row-marks_dead
+marks_id l n id e away ok found is_loaded unused = row.marks_id (listed l) n id (record_of e) away (book_rises l.area ok.book) (record_found l.area.entries id e found) (ap is_dead is_loaded) unused
+
 pub row-scans : (k : Shape) (l : ListState) (n : ℕ) (away : List Run) (left : List ℕ) (r : Reader) (cpu : CpuPart) → l.sweep ≡ sweep.Reading left r → cpu.number ≡ r.cpu
     → Scans k left r cpu (list_part n away l) (list_part (n + 1) away (scanned k (slice_index cpu.words (word_place r.pass r.tag)) l))
 row-scans k l n away left r cpu reading next =

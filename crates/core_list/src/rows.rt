@@ -9,6 +9,7 @@ ghost use Rattle.tag_model.specs.declared.state.Sweep.TheVariants as sweep;
 ghost use Rattle.tag_model.specs.Shape.{IsChecked};
 ghost use Rattle.tag_model.specs.Laws.{are_dead, sweep_fits};
 ghost use Rattle.tag_model.specs.StepRules.{Enters, Leaves, Loads, MarksDead, Releases, Scans, Sweeps, dead_ids};
+ghost use Rattle.tag_model.specs.Sweeping.{are_above_zero, is_accounted};
 ghost use Rattle.tag_model.specs.WordState.{word_place};
 ghost use Rattle.module_area.specs.Entries.{entry_of};
 ghost use Rattle.module_area.specs.declared.entry.Entry.{Entry};
@@ -48,4 +49,15 @@ pub fn sweeps_end()
     ensures of_all { (k : Shape) (l : ListState) → IsList l → sweep_steps k (swept_list l) ≤ 2 * k.cpus * tags_of (dead_ids (records_of l)) l.area.entries + length (dead_ids (records_of l)) }
     ensures most { (k : Shape) (l : ListState) → IsList l → l.area.first + l.area.tags ≤ k.tags → 2 * k.cpus * tags_of (dead_ids (records_of l)) l.area.entries + length (dead_ids (records_of l)) ≤ most_steps k }
     ensures most_of_one { (k : Shape) (l : ListState) (id : ℕ) (e : Entry) → IsList l → l.area.first + l.area.tags ≤ k.tags → entry_of l.area.entries id ≡ Some e → 2 * k.cpus * e.length + 1 ≤ most_steps k }
+{}
+
+/// Each dead module that a sweep listed as it began is on its list or has a stop, as long as it is there, and no stop has
+/// the sum 0.
+pub fn dead_modules_are_listed_or_have_a_stop()
+    ensures swept { (l : ListState) (n id : ℕ) (away : List Run) → IsTrue (is_accounted id (list_part n away (swept_list l))) }
+    ensures dead { (l : ListState) (n id : ℕ) (e : Entry) (away : List Run) → IsList l → entry_of l.area.entries id ≡ Some e → e.state ≡ Loaded → e.users ≡ 0 → IsTrue (is_accounted id (list_part n away (dead_list id l))) }
+    ensures scanned { (k : Shape) (l : ListState) (n id : ℕ) (away : List Run) (left : List ℕ) (r : Reader) (cpu : CpuPart) → l.sweep ≡ sweep.Reading left r → cpu.number ≡ r.cpu → IsTrue (is_accounted id (list_part n away l))
+        → IsTrue (is_accounted id (list_part (n + 1) away (scanned k (slice_index cpu.words (word_place r.pass r.tag)) l))) }
+    ensures released { (l : ListState) (n id gone : ℕ) (away : List Run) (left : List ℕ) → l.sweep ≡ sweep.Done (gone ∷ left) → IsTrue (is_accounted id (list_part n away l)) → IsTrue (is_accounted id (list_part n away (released l))) }
+    ensures sums { (k : Shape) (l : ListState) (left : List ℕ) (r : Reader) (cpu : CpuPart) → l.sweep ≡ sweep.Reading left r → cpu.number ≡ r.cpu → IsTrue (are_above_zero l.stops) → IsTrue (are_above_zero (scanned k (slice_index cpu.words (word_place r.pass r.tag)) l).stops) }
 {}

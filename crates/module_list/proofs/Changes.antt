@@ -79,6 +79,11 @@ row-marks_dead l reads id r away rises found is_loaded unused =
       after = ap (λ rs. part rs id) (at.changed dead_record) ∙ ap (part (at.front ++ dead_record r ∷ at.back)) (sym at.same_id);
     }
 
+-- the record that it marks
+pub marks_id : (l : Listing) (reads id : ℕ) (r : Record) (away : List Run) (rises : rises_from 0 (ids_of l.records) ≡ true) (found : record_in id l.records ≡ Some r) (is_loaded : r.dead ≡ false) (unused : r.users ≡ 0) → (row-marks_dead l reads id r away rises found is_loaded unused).entry.id ≡ id
+unfolding row-marks_dead
+marks_id l reads id r away rises found is_loaded unused = (record_at l.records id r rises found).same_id
+
 pub row-scans : (k : Shape) (l : Listing) (reads : ℕ) (away : List Run) (ids : List ℕ) (r : Reader) (cpu : CpuPart) → l.sweep ≡ sweep.Reading ids r → cpu.number ≡ r.cpu
     → Scans k ids r cpu (list_part reads away l) (list_part (reads + 1) away (scanned k (slice_index cpu.words (word_place r.pass r.tag)) l))
 row-scans k l reads away ids r cpu reading next =

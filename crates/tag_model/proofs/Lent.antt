@@ -1,5 +1,5 @@
 -- The parts of a state: the CPU of a number, the module list, the right to give the next id; and what is left beside them all.
-use Rattle.std.proofs.Common.{◌≡◌, ℕ, ◌+◌, ◌<◌, ◌≤◌, ◌==◌, ◌⊎◌, List, [], ◌∷◌, ◌++◌, sum_by, refl, inl, inr, arith, true, false, eqb-true, eq-eqb, ltb-true, nat_le, leb-true, count_by, not}
+use Rattle.std.proofs.Common.{◌≡◌, ℕ, ◌+◌, ◌<◌, ◌≤◌, ◌==◌, ◌⊎◌, List, [], ◌∷◌, ◌++◌, sum_by, refl, inl, inr, arith, true, false, eqb-true, eq-eqb, ltb-true, nat_le, nat_lt, leb-true, count_by, not}
 use Rattle.std.proofs.lemmas.Bool.{cases_Bool}
 use Rattle.std.proofs.lemmas.List.Sums.{sum_by-cons, sum_by-append}
 use Rattle.tag_model.specs.declared.shape.Shape.{Shape}
@@ -9,11 +9,12 @@ use Rattle.tag_model.specs.declared.state.Run.{Run}
 use Rattle.tag_model.specs.declared.state.Part.{Part}
 use Rattle.tag_model.specs.declared.state.Part.TheVariants.{Cpu, Place, Modules, NextId}
 use Rattle.tag_model.specs.Laws.{Safe, runs_of_cpu}
-use Rattle.tag_model.specs.StepRules.{Stands}
+use Rattle.tag_model.specs.StepRules.{Becomes, Stands}
 use Rattle.tag_model.specs.Telling.{AreAllLent, CpuOf, ListOf, PassOf}
-use Rattle.tag_model.specs.WordState.{one_if, Every, is_cpu, is_list, is_pass, part_fits, runs_with}
+use Rattle.tag_model.specs.WordState.{one_if, Every, is_cpu, is_list, is_pass, next_id, part_fits, runs_with}
 use Rattle.tag_model.proofs.Bounds.{every_first, every_rest, few_cpus, some_cpu}
 use Rattle.tag_model.proofs.CpuFits.{cpu_fits_means}
+use Rattle.tag_model.proofs.Found.{none_fails}
 use Rattle.tag_model.proofs.ListRows.{OneList, list_alone, one_before}
 use Rattle.tag_model.proofs.Parts.{IsOfList, standing}
 
@@ -25,6 +26,21 @@ stand_front v w ps s = record { rest = s.rest ++ w; among = λ f. omega (arith, 
 
 pub stand_back : (v w ps : List Part) → Stands (v ++ w) ps → Stands w ps
 stand_back v w ps s = record { rest = s.rest ++ v; among = λ f. omega (arith, s.among f, sum_by-append f v w, sum_by-append f s.rest v) }
+
+-- parts that stay beside a step may be left out
+pub beside_behind : (v w more old new : List Part) → Becomes (v ++ more) (w ++ more) old new → Becomes v w old new
+beside_behind v w more old new b = record {
+  rest = b.rest ++ more;
+  before = λ f. omega (arith, b.before f, sum_by-append f v more, sum_by-append f b.rest more);
+  after = λ f. omega (arith, b.after f, sum_by-append f w more, sum_by-append f b.rest more);
+}
+
+pub beside_before : (v w more old new : List Part) → Becomes (more ++ v) (more ++ w) old new → Becomes v w old new
+beside_before v w more old new b = record {
+  rest = b.rest ++ more;
+  before = λ f. omega (arith, b.before f, sum_by-append f more v, sum_by-append f b.rest more);
+  after = λ f. omega (arith, b.after f, sum_by-append f more w, sum_by-append f b.rest more);
+}
 
 stand_first : (p : Part) (ps : List Part) → Stands (p ∷ []) (p ∷ ps)
 stand_first p ps = record { rest = ps; among = λ f. omega (arith, sum_by-cons f p ps) }
@@ -134,3 +150,19 @@ few_runs k l ps one safe id = omega (arith, runs_few id ps (safe.cover.one_run i
 -- the list that stands in a safe state is its one list
 pub the_list_of : (k : Shape) (l : ListPart) (ps : List Part) → Stands (Modules l ∷ []) ps → Safe k ps → OneList l ps
 the_list_of k l ps s safe = one_before (Modules l ∷ []) (Modules l ∷ []) ps ps l (list_alone l) (standing (Modules l ∷ []) ps s) safe.each.list
+
+-- ---- the next id
+
+none_next : (ps : List Part) → sum_by is_pass ps ≡ 0 → sum_by next_id ps ≡ 0
+none_next [] e = refl
+none_next (Cpu c ∷ ps) e = omega (arith, sum_by-cons next_id (Cpu c) ps, none_next ps (omega (arith, sum_by-cons is_pass (Cpu c) ps)))
+none_next (Place n held ∷ ps) e = omega (arith, sum_by-cons next_id (Place n held) ps, none_next ps (omega (arith, sum_by-cons is_pass (Place n held) ps)))
+none_next (Modules l ∷ ps) e = omega (arith, sum_by-cons next_id (Modules l) ps, none_next ps (omega (arith, sum_by-cons is_pass (Modules l) ps)))
+none_next (NextId id ∷ ps) e = absurd (omega (arith, sum_by-cons is_pass (NextId id) ps))
+
+-- the next id is that of the pass that stands in the state
+pub next_is : (k : Shape) (id : ℕ) (ps : List Part) → Stands (NextId id ∷ []) ps → Safe k ps → sum_by next_id ps ≡ id
+next_is k id ps s safe = omega (arith, s.among next_id, none_next s.rest (omega (arith, s.among is_pass, safe.each.pass)))
+
+pub next_above_zero : (k : Shape) (id : ℕ) (ps : List Part) → Stands (NextId id ∷ []) ps → Safe k ps → 0 < id
+next_above_zero k id ps s safe = ltb-true 0 id (none_fails (nat_lt 0 id) (omega (arith, safe.fits, s.among (λ p. one_if (not (part_fits k p))))))

@@ -14,7 +14,7 @@ ghost use Rattle.tag_model.specs.declared.state.Hand.{Hand};
 ghost use Rattle.tag_model.specs.declared.state.Held.TheVariants as held;
 ghost use Rattle.tag_model.specs.declared.state.ListPart.{ListPart};
 ghost use Rattle.tag_model.specs.declared.state.Note.{Note};
-ghost use Rattle.tag_model.specs.declared.state.Part.TheVariants.{Cpu, Modules, Place};
+ghost use Rattle.tag_model.specs.declared.state.Part.TheVariants.{Cpu, Modules, NextId, Place};
 ghost use Rattle.tag_model.specs.declared.state.Part.{Part};
 ghost use Rattle.tag_model.specs.declared.state.Record.{Record};
 ghost use Rattle.tag_model.specs.declared.state.Run.{Run};
@@ -51,4 +51,11 @@ pub fn a_safe_state_tells_of_a_cpu()
 /// Of a place: a reference's tag is the kernel's, or the record of its module has it in its range.
 pub fn a_safe_state_tells_of_a_place()
     ensures { (k : Shape) (n : ℕ) (tag : Tag) (size : ℕ) (l : ListPart) (parts : List Part) → Stands (Place n (held.Counted tag size) ∷ Modules l ∷ []) parts → Safe k parts → IsTrue (is_covered_by k l.records tag) }
+{}
+
+/// Of the right to give the next id: it is above 0, and above the id of each record.
+pub fn a_safe_state_tells_of_the_next_id()
+    ensures is_the_next { (k : Shape) (id : ℕ) (parts : List Part) → Stands (NextId id ∷ []) parts → Safe k parts → sum_by next_id parts ≡ id }
+    ensures above_zero { (k : Shape) (id : ℕ) (parts : List Part) → Stands (NextId id ∷ []) parts → Safe k parts → 0 < id }
+    ensures above_all { (k : Shape) (l : ListPart) (id : ℕ) (parts : List Part) → Stands (Modules l ∷ NextId id ∷ []) parts → Safe k parts → IsTrue (list_all (λ (r : Record). nat_lt r.id id) l.records) }
 {}

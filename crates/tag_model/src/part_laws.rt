@@ -3,7 +3,7 @@
 
 ghost use Rattle.std.specs.Prelude.{ℕ, ◌≡◌, List, ◌++◌, sum_by};
 ghost use Rattle.tag_model.specs.Laws.{Safe};
-ghost use Rattle.tag_model.specs.StepRules.{Stands};
+ghost use Rattle.tag_model.specs.StepRules.{Becomes, Stands};
 ghost use Rattle.tag_model.specs.Telling.{AreAllLent, CpuOf, ListOf, PassOf};
 ghost use Rattle.tag_model.specs.WordState.{is_cpu, is_list, is_pass};
 ghost use Rattle.tag_model.specs.declared.shape.Shape.{Shape};
@@ -15,6 +15,12 @@ ghost use Rattle.tag_model.specs.declared.state.Part.{Part};
 pub fn parts_stand_alone()
     ensures front { (v w parts : List Part) → Stands (v ++ w) parts → Stands v parts }
     ensures back { (v w parts : List Part) → Stands (v ++ w) parts → Stands w parts }
+{}
+
+/// Parts that become themselves beside others may be left out of what is said of these.
+pub fn parts_beside_a_step_may_be_left_out()
+    ensures behind { (v w more old new : List Part) → Becomes (v ++ more) (w ++ more) old new → Becomes v w old new }
+    ensures before { (v w more old new : List Part) → Becomes (more ++ v) (more ++ w) old new → Becomes v w old new }
 {}
 
 /// Where there is one CPU of a number, it stands among the parts; so do the module list and the right to give the next
