@@ -207,10 +207,11 @@ marked_at b start order frames i within low high =
 
 pub unmarked_at : (b : Bool) (start order : ℕ) (frames : List Bool) (i : ℕ) → start + 2 ^ order ≤ length frames → (i < start) ⊎ (start + 2 ^ order ≤ i) → slice_get (marked b start order frames) i ≡ slice_get frames i
 unmarked_at b start order frames i within out = elim (cases_lt i (length frames)) [
-    inl below ↦
-        slice_get-get_or (marked b start order frames) i b (omega (arith, length-marked b start order frames within))
-        ∙ ap (λ x. Some x) (marked_outside b b start order frames i within out)
-        ∙ sym (slice_get-get_or frames i b below)
-    | inr past ↦
-        slice_get_past (marked b start order frames) i (omega (arith, length-marked b start order frames within))
-        ∙ sym (slice_get_past frames i past) ]
+  | inl below ↦
+      slice_get-get_or (marked b start order frames) i b (omega (arith, length-marked b start order frames within))
+      ∙ ap (λ x. Some x) (marked_outside b b start order frames i within out)
+      ∙ sym (slice_get-get_or frames i b below)
+  | inr past ↦
+      slice_get_past (marked b start order frames) i (omega (arith, length-marked b start order frames within))
+      ∙ sym (slice_get_past frames i past)
+]

@@ -195,7 +195,9 @@ impl Core {
             return Err(StepRefused::NoStep);
         }
         let at = cpu as usize;
-        let step = self.machine.step(at, &self.modules.scene(at), &mut self.words[at])?;
+        let step = self
+            .machine
+            .step(at, &self.modules.scene(at), &mut self.words[at])?;
         self.modules.take(step, at);
         Ok(Event::Stepped)
     }

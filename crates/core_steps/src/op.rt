@@ -3,11 +3,10 @@
 ghost use Rattle.std.specs.Prelude.{◌≡◌};
 ghost use Rattle.core_steps.specs.CoreState.{cpu_op, manager_op};
 
-pub use cpu_ops::{KEY_END, MAX_PARTS, MAX_QUEUED, QueueError, StepRefused};
-pub use module_ops::{Cause, Event};
-
 use cpu_ops::CpuOp;
+pub use cpu_ops::{KEY_END, MAX_PARTS, MAX_QUEUED, QueueError, StepRefused};
 use module_ops::ManagerOp;
+pub use module_ops::{Cause, Event};
 
 /// Who takes a step.
 #[derive(Clone, Copy, Debug, PartialEq, Eq)]

@@ -66,12 +66,7 @@ pub fn memprof_still<S: Source, K: Sink>(
 }
 
 // The same, by the definition of each answer.
-fn serve<S: Source, K: Sink>(
-    alloc: Global,
-    words: &[String],
-    source: &mut S,
-    sink: &mut K,
-) -> u8
+fn serve<S: Source, K: Sink>(alloc: Global, words: &[String], source: &mut S, sink: &mut K) -> u8
     ensures range { result < 6 }
     ensures words { (result ≡ 2) ↔ (mode_of (map string_bytes words.now) ≡ None) }
     ensures unread { result ≡ 2 → source.new ≡ source.old }
