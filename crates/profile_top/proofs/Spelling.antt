@@ -17,8 +17,8 @@ use Rattle.info_read.specs.Reading.{rows_of}
 use Rattle.info_group.specs.Grouping.{groups_of}
 use Rattle.info_group.specs.Text.{groups_text}
 use Rattle.profile_top.specs.declared.mode.Mode.{Mode}
-use Rattle.profile_top.specs.Answers.{Served, Written, answer_in, answer_of, checked, first_of, grouped, is_schedule, played, rounds_checked, step_read, steps_checked, trace_checked, refusal_text, ok_text, info_refusal_text, input_limit}
-use Rattle.profile_top.specs.Spelled.{ServedBy, Accepts, Refuses, IsWell, StepSays, CheckSays, GroupsSay}
+use Rattle.profile_top.specs.Answers.{Served, ServedInPart, Written, answer_in, answer_of, checked, first_of, grouped, is_schedule, played, rounds_checked, step_read, steps_checked, trace_checked, refusal_text, ok_text, info_refusal_text, input_limit}
+use Rattle.profile_top.specs.Spelled.{ServedBy, SentInPart, Accepts, Refuses, IsWell, StepSays, CheckSays, GroupsSay}
 use Rattle.profile_top.proofs.Serving.{long_answer, short_answer}
 
 -- ---- each command
@@ -98,4 +98,19 @@ spelled mode says by status left left_after taken taken_after served = record {
   sent = served.written;
   long = λ h. let is = long_answer mode served.input h in (served.told ∙ ap (λ (w : Written). w.status) is, ap (λ (w : Written). w.text) is);
   short = λ h. let is = short_answer mode served.input h in by served.input status (answer_of mode served.input).text (served.told ∙ ap (λ (w : Written). w.status) is) (ap (λ (w : Written). w.text) is);
+}
+
+pub spelled_in_part : (mode : Mode) (says : List ℕ → ℕ → List ℕ → Type 0) → ((input : List ℕ) (status : ℕ) (text : List ℕ) → status ≡ (answer_in mode input).status → text ≡ (answer_in mode input).text → says input status text)
+    → (left left_after taken taken_after : Option (List ℕ)) → ServedInPart mode left left_after taken taken_after → SentInPart says left left_after taken taken_after
+spelled_in_part mode says by left left_after taken taken_after served = record {
+  input = served.input;
+  status = (answer_of mode served.input).status;
+  text = (answer_of mode served.input).text;
+  count = served.written.count;
+  read = served.is_input.taken;
+  whole = served.is_input.whole;
+  sent = served.written.sent;
+  long = λ h. let is = long_answer mode served.input h in (ap (λ (w : Written). w.status) is, ap (λ (w : Written). w.text) is);
+  short = λ h. let is = short_answer mode served.input h in
+      by served.input (answer_of mode served.input).status (answer_of mode served.input).text (ap (λ (w : Written). w.status) is) (ap (λ (w : Written). w.text) is);
 }

@@ -1,5 +1,5 @@
 -- What the top call serves, once more, on one page: what was read, what went out for it, and the status.
-use Rattle.std.specs.Prelude.{◌≡◌, ◌≢◌, ℕ, ◌<◌, ◌≤◌, ◌⊎◌, ◌++◌, List, [], ◌∷◌, Option, MatchResult, length, codes, decimal}
+use Rattle.std.specs.Prelude.{◌≡◌, ◌≢◌, ℕ, ◌<◌, ◌≤◌, ◌⊎◌, ◌++◌, List, [], ◌∷◌, Option, MatchResult, length, take, codes, decimal}
 use Rattle.std.specs.Io.KnownBytes.{Appends, Consumes, IsAtEnd}
 use Rattle.tag_section.specs.Section.{names_of}
 use Rattle.text_form.specs.Lines.{lines_of}
@@ -22,6 +22,19 @@ pub record ServedBy (says : List ℕ → ℕ → List ℕ → Type 0) (status : 
   pub read : Consumes left left_after input
   pub whole : IsAtEnd left_after ⊎ (length input ≡ 4194305)
   pub sent : Appends taken taken_after text
+  pub long : 4194304 < length input → (status ≡ 1) × (text ≡ codes "input too long\n")
+  pub short : length input ≤ 4194304 → says input status text
+
+-- The same where writing failed: the text is what was to go out, its first bytes are what went out, and the status is
+-- the one that it stands for.
+pub record SentInPart (says : List ℕ → ℕ → List ℕ → Type 0) (left left_after taken taken_after : Option (List ℕ)) : Type 0 where
+  pub input : List ℕ
+  pub status : ℕ
+  pub text : List ℕ
+  pub count : ℕ
+  pub read : Consumes left left_after input
+  pub whole : IsAtEnd left_after ⊎ (length input ≡ 4194305)
+  pub sent : Appends taken taken_after (take count text)
   pub long : 4194304 < length input → (status ≡ 1) × (text ≡ codes "input too long\n")
   pub short : length input ≤ 4194304 → says input status text
 

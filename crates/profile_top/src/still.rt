@@ -7,7 +7,7 @@ ghost use Rattle.outside.specs.Faults.{Rose};
 ghost use Rattle.outside.specs.Bytes.{AppendsPrefix, TookWithin};
 ghost use Rattle.profile_top.specs.declared.mode.Mode.{Mode};
 ghost use Rattle.info_group.specs.Keys.{file_key, module_key};
-ghost use Rattle.profile_top.specs.Spelled.{ServedBy, StepSays, CheckSays, GroupsSay};
+ghost use Rattle.profile_top.specs.Spelled.{ServedBy, SentInPart, StepSays, CheckSays, GroupsSay};
 ghost use Rattle.profile_top.specs.Answers.{input_limit, mode_of, answer_of, Served, ServedInPart};
 
 use crate::mode::{answer_input, mode_of};
@@ -54,13 +54,19 @@ pub fn memprof_still<S: Source, K: Sink>(
     // No call of the source or the sink failed, but where the status says so.
     ensures no_read_fault { result ≢ 4 → S.faults source.new ≡ S.faults source.old }
     ensures no_write_fault { result ≢ 5 → K.faults sink.new ≡ K.faults sink.old }
-    // Where memory ran out, no more was read than an input may have.
+    // Where memory ran out or reading failed, no more was read than an input may have.
     ensures within { result ≡ 3 → TookWithin input_limit (S.left source.old) (S.left source.new) }
+    ensures fault_within { result ≡ 4 → TookWithin input_limit (S.left source.old) (S.left source.new) }
     // What is served, spelled out by the word.
     ensures step { map string_bytes words.now ≡ codes "step" ∷ [] → result < 2 → ServedBy StepSays result (S.left source.old) (S.left source.new) (K.taken sink.old) (K.taken sink.new) }
     ensures check { map string_bytes words.now ≡ codes "check" ∷ [] → result < 2 → ServedBy CheckSays result (S.left source.old) (S.left source.new) (K.taken sink.old) (K.taken sink.new) }
     ensures files { map string_bytes words.now ≡ codes "files" ∷ [] → result < 2 → ServedBy (GroupsSay file_key) result (S.left source.old) (S.left source.new) (K.taken sink.old) (K.taken sink.new) }
     ensures modules { map string_bytes words.now ≡ codes "modules" ∷ [] → result < 2 → ServedBy (GroupsSay module_key) result (S.left source.old) (S.left source.new) (K.taken sink.old) (K.taken sink.new) }
+    // And the same of what went out where writing failed.
+    ensures step_in_part { map string_bytes words.now ≡ codes "step" ∷ [] → result ≡ 5 → SentInPart StepSays (S.left source.old) (S.left source.new) (K.taken sink.old) (K.taken sink.new) }
+    ensures check_in_part { map string_bytes words.now ≡ codes "check" ∷ [] → result ≡ 5 → SentInPart CheckSays (S.left source.old) (S.left source.new) (K.taken sink.old) (K.taken sink.new) }
+    ensures files_in_part { map string_bytes words.now ≡ codes "files" ∷ [] → result ≡ 5 → SentInPart (GroupsSay file_key) (S.left source.old) (S.left source.new) (K.taken sink.old) (K.taken sink.new) }
+    ensures modules_in_part { map string_bytes words.now ≡ codes "modules" ∷ [] → result ≡ 5 → SentInPart (GroupsSay module_key) (S.left source.old) (S.left source.new) (K.taken sink.old) (K.taken sink.new) }
 {
     serve(alloc, words, source, sink)
 }
@@ -82,8 +88,9 @@ fn serve<S: Source, K: Sink>(alloc: Global, words: &[String], source: &mut S, si
     // No call of the source or the sink failed, but where the status says so.
     ensures no_read_fault { result ≢ 4 → S.faults source.new ≡ S.faults source.old }
     ensures no_write_fault { result ≢ 5 → K.faults sink.new ≡ K.faults sink.old }
-    // Where memory ran out, no more was read than an input may have.
+    // Where memory ran out or reading failed, no more was read than an input may have.
     ensures within { result ≡ 3 → TookWithin input_limit (S.left source.old) (S.left source.new) }
+    ensures fault_within { result ≡ 4 → TookWithin input_limit (S.left source.old) (S.left source.new) }
 {
     let Some(mode) = mode_of(words) else {
         return 2;
