@@ -1,12 +1,13 @@
 //! The program `memprof`: memory-allocation profiles by code tag.
 #![tactic(auto)]
 
-ghost use Rattle.std.specs.Prelude.{ℕ, List, ◌≡◌, ◌<◌, ◌⊎◌, ◌↔◌, drop, map, codes, Some, None, IfOk, IfErr, OnErr};
+ghost use Rattle.std.specs.Prelude.{ℕ, List, ◌≡◌, ◌≢◌, ◌<◌, ◌⊎◌, ◌↔◌, drop, map, codes, Some, None, IfOk, IfErr, OnErr};
 ghost use Rattle.std.specs.Option.{option_copied};
 ghost use Rattle.std.specs.String.{string_bytes};
 ghost use Rattle.std.specs.Io.KnownBytes.{Appends};
+ghost use Rattle.outside.specs.Faults.{Rose};
 ghost use Rattle.profile_top.specs.declared.mode.Mode.{Mode};
-ghost use Rattle.profile_top.specs.Answers.{mode_of, answer_of};
+ghost use Rattle.profile_top.specs.Answers.{mode_of, answer_of, Served, ServedInPart};
 ghost use Rattle.memprof.specs.Unread.{status_of};
 
 use outside::{Sink, Source, StdSink, StdSource};
@@ -71,6 +72,14 @@ fn serve<S: Source, K: Sink>(
     ensures words { IfOk arguments (λ all. (result ≡ 2) ↔ (mode_of (map string_bytes (drop 1 all.items)) ≡ None)) }
     ensures decided { IfOk arguments (λ all. (mode : Mode) (input : List ℕ) → mode_of (map string_bytes (drop 1 all.items)) ≡ Some mode → S.left source.old ≡ Some input → result < 2
         → (result ≡ (answer_of mode input).status) × Appends (K.taken sink.old) (K.taken sink.new) (answer_of mode input).text) }
+    ensures served { IfOk arguments (λ all. (mode : Mode) → mode_of (map string_bytes (drop 1 all.items)) ≡ Some mode → result < 2 → Served mode result (S.left source.old) (S.left source.new) (K.taken sink.old) (K.taken sink.new)) }
+    ensures in_part { IfOk arguments (λ all. (mode : Mode) → mode_of (map string_bytes (drop 1 all.items)) ≡ Some mode → result ≡ 5 → ServedInPart mode (S.left source.old) (S.left source.new) (K.taken sink.old) (K.taken sink.new)) }
+    ensures range { result < 6 }
+    ensures silent { (result ≡ 2) ⊎ (result ≡ 3) ⊎ (result ≡ 4) → sink.new ≡ sink.old }
+    ensures read_fault { result ≡ 4 → Rose (S.faults source.old) (S.faults source.new) }
+    ensures write_fault { result ≡ 5 → Rose (K.faults sink.old) (K.faults sink.new) }
+    ensures no_read_fault { result ≢ 4 → S.faults source.new ≡ S.faults source.old }
+    ensures no_write_fault { result ≢ 5 → K.faults sink.new ≡ K.faults sink.old }
 {
     match arguments {
         Ok(all) => memprof_still(alloc, words(all.as_slice()), source, sink),
