@@ -11,3 +11,5 @@ pub mod PlaceWords
 pub mod RunIds
 pub mod Dealt
 pub mod Starts
+pub mod Hands
+pub mod Scripts

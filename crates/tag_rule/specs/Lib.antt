@@ -7,3 +7,4 @@ pub mod Parts
 pub mod Steps
 pub mod Writing
 pub mod Made
+pub mod Scripts

@@ -4,6 +4,7 @@
 mod adding;
 mod cells;
 mod cpu;
+pub mod laws;
 mod making;
 mod modules;
 mod parting;
@@ -12,6 +13,8 @@ mod rule;
 mod seats;
 mod sending;
 mod subtracting;
+#[cfg(test)]
+mod tests;
 mod view;
 mod words;
 mod writing;
