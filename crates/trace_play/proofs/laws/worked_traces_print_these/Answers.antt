@@ -1,5 +1,5 @@
-use Rattle.rounds.proofs.RowLemmas.{these_are_printed}
-use Rattle.rounds.proofs.laws.worked_traces_print_these.Goals as goal
+use Rattle.trace_play.proofs.RowLemmas.{these_are_printed}
+use Rattle.trace_play.proofs.laws.worked_traces_print_these.Goals as goal
 
 pub returns-clause-slab_and_object : goal.returns-clause-slab_and_object
 returns-clause-slab_and_object c = these_are_printed.0

@@ -1,8 +1,8 @@
 //! Laws of what a trace means. The functions do nothing: what they promise are laws of the definitions.
 
-ghost use Rattle.rounds.specs.Answer.{run_answer, told};
-ghost use Rattle.rounds.specs.Left.{held_at};
-ghost use Rattle.rounds.specs.Rows.{empty_mark_free, empty_mark_free_text, freed_twice, kept_range_bars_load, kept_rows_printed, kept_rows_printed_text, nested_hooks, nested_hooks_text, no_frames, no_frames_text, no_vectors, no_vectors_text, range_given_again, range_given_again_text, shared_key, slab_and_object, slab_and_object_text, storage_home_at_barrier, storage_home_at_barrier_text, swapped_references, swapped_references_text, swapped_unequal, top_one_text, two_file_systems, two_file_systems_text};
+ghost use Rattle.trace_play.specs.Answer.{run_answer, told};
+ghost use Rattle.trace_play.specs.Left.{held_at};
+ghost use Rattle.trace_play.specs.Rows.{empty_mark_free, empty_mark_free_text, freed_twice, kept_range_bars_load, kept_rows_printed, kept_rows_printed_text, nested_hooks, nested_hooks_text, no_frames, no_frames_text, no_vectors, no_vectors_text, range_given_again, range_given_again_text, shared_key, slab_and_object, slab_and_object_text, storage_home_at_barrier, storage_home_at_barrier_text, swapped_references, swapped_references_text, swapped_unequal, top_one_text, two_file_systems, two_file_systems_text};
 ghost use Rattle.std.specs.Prelude.{◌≡◌, None, Some, codes};
 ghost use Rattle.tag_model.specs.Index.{page_index, program_shape};
 ghost use Rattle.tag_model.specs.Moves.{moved_word};

@@ -16,20 +16,20 @@ use Rattle.trace.specs.TraceWords.{trace_keyword, on_name}
 use Rattle.input_form.specs.Places.{module_word, tag_word}
 use Rattle.trace.specs.TraceReading.{print_line, body_line, word_line, trace_header, trace_of}
 use Rattle.input_form.specs.Reading.{judged_line}
-use Rattle.rounds.specs.Printed.{area_text, areas_text}
-use Rattle.rounds.specs.Play.{done_text}
-use Rattle.rounds.specs.Answer.{run_answer, told, refusal_text}
+use Rattle.trace_play.specs.Printed.{area_text, areas_text}
+use Rattle.trace_play.specs.Play.{done_text}
+use Rattle.trace_play.specs.Answer.{run_answer, told, refusal_text}
 use Rattle.input_form.specs.Codes.{code_text}
 use Rattle.round_check.specs.Cpus.{idle_cpus}
 use Rattle.round_check.specs.Tables.{unbound_keys, absent_modules}
 use Rattle.round_check.specs.Keys.{own_key, bound_key, free_key, take_key, give_key, part_keys, split_key, swap_keys, trim_key}
 use Rattle.round_check.specs.Walk.{enter_module, leave_module, unload_module, hook_tag, unhook_tag, load_module, walk_op, walk_item, rounds_of}
-use Rattle.rounds.specs.Left.{held_at}
+use Rattle.trace_play.specs.Left.{held_at}
 use Rattle.tag_model.specs.Index.{page_index, program_shape}
 use Rattle.tag_model.specs.Moves.{moved_word}
 use Rattle.tag_model.specs.declared.state.Held.TheVariants as held
 use Rattle.tag_model.specs.declared.state.Kind.TheVariants.{Bytes, Calls}
-use Rattle.rounds.specs.Rows.{empty_mark_free, empty_mark_free_text, freed_twice, kept_range_bars_load, kept_rows_printed, kept_rows_printed_text, nested_hooks, nested_hooks_text, no_frames, no_frames_text, no_vectors, no_vectors_text, range_given_again, range_given_again_text, shared_key, slab_and_object, slab_and_object_text, storage_home_at_barrier, storage_home_at_barrier_text, swapped_references, swapped_references_text, swapped_unequal, top_one_text, two_file_systems, two_file_systems_text}
+use Rattle.trace_play.specs.Rows.{empty_mark_free, empty_mark_free_text, freed_twice, kept_range_bars_load, kept_rows_printed, kept_rows_printed_text, nested_hooks, nested_hooks_text, no_frames, no_frames_text, no_vectors, no_vectors_text, range_given_again, range_given_again_text, shared_key, slab_and_object, slab_and_object_text, storage_home_at_barrier, storage_home_at_barrier_text, swapped_references, swapped_references_text, swapped_unequal, top_one_text, two_file_systems, two_file_systems_text}
 
 abbrev pub TheseArePrinted : Type 0
 TheseArePrinted =

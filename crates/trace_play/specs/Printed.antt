@@ -10,7 +10,7 @@ use Rattle.allocinfo.specs.declared.rows.Row.{Row}
 use Rattle.allocinfo.specs.Text.{rows_text}
 use Rattle.allocinfo.specs.Rank.{top_text}
 use Rattle.tag_model.specs.Reference.{live_total}
-use Rattle.rounds.specs.Machine.{Machine, live_cells}
+use Rattle.trace_play.specs.Machine.{Machine, live_cells}
 
 -- ---- `print`
 

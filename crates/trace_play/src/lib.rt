@@ -1,4 +1,4 @@
-//! Rounds of a trace: what `run` means.
+//! What a trace means when it is run.
 #![tactic(auto)]
 
 mod laws;

@@ -7,8 +7,8 @@ use Rattle.input_form.specs.Codes.{code_text}
 use Rattle.input_form.specs.Judging.{◌>>=◌}
 use Rattle.trace.specs.TraceReading.{trace_of}
 use Rattle.round_check.specs.Walk.{rounds_of}
-use Rattle.rounds.specs.Machine.{Machine, fresh_machine}
-use Rattle.rounds.specs.Play.{trace_played, trace_text}
+use Rattle.trace_play.specs.Machine.{Machine, fresh_machine}
+use Rattle.trace_play.specs.Play.{trace_played, trace_text}
 
 -- the status and the text, and the machine that is left
 pub record RunAnswer : Type 0 where

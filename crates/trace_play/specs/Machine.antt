@@ -9,8 +9,8 @@ use Rattle.slab_cache.specs.Slabs.{Slab, NodeState, slab_held}
 use Rattle.slab_cache.specs.Storage as storage
 use Rattle.slab_cache.specs.Storage.{Storage}
 use Rattle.trace.specs.declared.traces.Trace.{Trace}
-use Rattle.rounds.specs.Live.{Content, Nothing, Stored, Live}
-use Rattle.rounds.specs.Worker.{Seat, Tally, WorkerState}
+use Rattle.trace_play.specs.Live.{Content, Nothing, Stored, Live}
+use Rattle.trace_play.specs.Worker.{Seat, Tally, WorkerState}
 
 pub record Machine : Type 0 where
   pub seats : List Seat

@@ -9,9 +9,9 @@ use Rattle.input_form.specs.declared.code.Code.TheVariants as code
 use Rattle.trace.specs.declared.traces.Item.{Item}
 use Rattle.trace.specs.declared.traces.Item.TheVariants as item
 use Rattle.trace.specs.declared.traces.Trace.{Trace}
-use Rattle.rounds.specs.Machine.{Machine, machine_of, live_count}
-use Rattle.rounds.specs.Barrier.{round_done}
-use Rattle.rounds.specs.Printed.{print_text, areas_text, dead_of}
+use Rattle.trace_play.specs.Machine.{Machine, machine_of, live_count}
+use Rattle.trace_play.specs.Barrier.{round_done}
+use Rattle.trace_play.specs.Printed.{print_text, areas_text, dead_of}
 
 pub record Played : Type 0 where
   pub machine : Machine

@@ -10,8 +10,8 @@ use Rattle.slab_cache.specs.Homing.{come_home}
 use Rattle.trace.specs.declared.traces.OnOp.{OnOp}
 use Rattle.trace.specs.declared.traces.TraceOp.{TraceOp}
 use Rattle.trace.specs.declared.traces.TraceOp.TheVariants as op
-use Rattle.rounds.specs.Worker.{Seat, all_done}
-use Rattle.rounds.specs.Machine.{Machine, seat_at, worker_at, with_worker, live_cells, names}
+use Rattle.trace_play.specs.Worker.{Seat, all_done}
+use Rattle.trace_play.specs.Machine.{Machine, seat_at, worker_at, with_worker, live_cells, names}
 
 -- ---- the ops
 

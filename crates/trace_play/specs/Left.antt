@@ -7,7 +7,7 @@ use Rattle.tag_model.specs.declared.state.Held.TheVariants as held
 use Rattle.tag_model.specs.declared.state.Kind.{Kind}
 use Rattle.tag_model.specs.Index.{Slot, index_of, first_cell, word_count}
 use Rattle.tag_model.specs.Moves.{moved_word}
-use Rattle.rounds.specs.Machine.{Machine, live_cells}
+use Rattle.trace_play.specs.Machine.{Machine, live_cells}
 
 -- a table's words by CPU, kind and tag, and its cells by index
 pub record PlantView : Type 0 where

@@ -6,14 +6,14 @@ use Rattle.tag_model.specs.Moves.{Move}
 use Rattle.tag_model.specs.RefMoves.{close_moves, split_moves, trim_moves}
 use Rattle.module_area.specs.declared.entry.Entry.{Entry}
 use Rattle.module_area.specs.Entries.{is_loaded_as}
-use Rattle.rounds.specs.Parts.{parts_in}
+use Rattle.trace_play.specs.Parts.{parts_in}
 use Rattle.slab_cache.specs.Slabs.{NodeState}
 use Rattle.slab_cache.specs.Storage.{Storage, home_of, has_cell}
 use Rattle.slab_cache.specs.Giving.{Given, given_block, given_object}
 use Rattle.slab_cache.specs.Homing.{Taken, come_home}
 use Rattle.trace.specs.declared.traces.TraceOp.{TraceOp}
 use Rattle.trace.specs.declared.traces.TraceOp.TheVariants as op
-use Rattle.rounds.specs.Live.{Content, Nothing, Stored, Live, content_at, put, without, held_of, order_of, split_live, swap_live, trim_live}
+use Rattle.trace_play.specs.Live.{Content, Nothing, Stored, Live, content_at, put, without, held_of, order_of, split_live, swap_live, trim_live}
 
 -- what is a CPU's own: its node; the tags of the hooks that are out, the last one first; storage of other nodes that it freed
 pub record Seat : Type 0 where

@@ -1,5 +1,5 @@
-use Rattle.rounds.proofs.RowLemmas.{these_are_left}
-use Rattle.rounds.proofs.laws.a_worked_trace_leaves_these.Goals as goal
+use Rattle.trace_play.proofs.RowLemmas.{these_are_left}
+use Rattle.trace_play.proofs.laws.a_worked_trace_leaves_these.Goals as goal
 
 pub returns-clause-bytes_of_the_allocating_cpu : goal.returns-clause-bytes_of_the_allocating_cpu
 returns-clause-bytes_of_the_allocating_cpu c = these_are_left.0
