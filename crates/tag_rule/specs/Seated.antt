@@ -1,6 +1,6 @@
 -- What a token keeps of its seat: its parts, and what bounds them.
 use Rattle.std.specs.Prelude.{◌≡◌, ℕ, ◌+◌, ◌-◌, ◌*◌, ◌<◌, ◌≤◌, ◌==◌, nat_le, nat_lt, ◌&&◌, Bool, true, IsTrue, Option, Some, None, List, [], ◌∷◌, ◌++◌, map, length, count_by}
-use Rattle.std.specs.List.{list_all, range_with_len}
+use Rattle.std.specs.List.{list_all, list_any, range_with_len}
 use Rattle.tag_model.specs.declared.shape.Shape.{Shape}
 use Rattle.tag_model.specs.declared.state.CpuPart.{CpuPart}
 use Rattle.tag_model.specs.declared.state.Hand.{Hand}
@@ -9,12 +9,16 @@ use Rattle.tag_model.specs.declared.state.Held.TheVariants as held
 use Rattle.tag_model.specs.declared.state.ListPart.{ListPart}
 use Rattle.tag_model.specs.declared.state.Part.{Part}
 use Rattle.tag_model.specs.declared.state.Part.TheVariants.{Cpu, Place, Modules, NextId}
+use Rattle.tag_model.specs.declared.state.Record.{Record}
 use Rattle.tag_model.specs.declared.state.Run.{Run}
 use Rattle.tag_model.specs.Index.{first_cell, word_count}
 use Rattle.tag_model.specs.Reference.{hand_fits, held_fits}
+use Rattle.tag_model.specs.Laws.{ids_of, is_loaded_as, rises_from, sweep_fits}
 use Rattle.tag_model.specs.Shape.{IsChecked}
+use Rattle.tag_model.specs.WordState.{in_range, record_fits}
+use Rattle.module_list.specs.Listing.{record_limit}
 use Rattle.tag_rule.specs.Fresh.{fresh_list, places}
-use Rattle.tag_rule.specs.Shown.{CpuShown, CellShown}
+use Rattle.tag_rule.specs.Shown.{CpuShown, CellShown, ListShown}
 
 -- ---- a CPU
 
@@ -99,6 +103,15 @@ list_in (Place n h ∷ parts) = fresh_list
 list_in (Modules l ∷ parts) = l
 list_in (NextId id ∷ parts) = fresh_list
 
+-- what a safe state tells of its list alone: the records stand by rising id, in the area and apart; the sweep is in its bounds; a record's users are at most the CPUs and the runs on their way; a run on its way has its loaded record, with a user
+pub record ListHolds (k : Shape) (l : ListPart) : Type 0 where
+  pub rises : IsTrue (rises_from 0 (ids_of l.records))
+  pub in_area : IsTrue (list_all (record_fits k) l.records)
+  pub apart : (t : ℕ) → count_by (λ (r : Record). in_range r.start r.length t) l.records ≤ 1
+  pub sweep : IsTrue (sweep_fits k l.sweep l.records)
+  pub users : IsTrue (list_all (λ (r : Record). nat_le r.users (k.cpus + count_by (λ (run : Run). run.id == r.id) l.away)) l.records)
+  pub away : (ahead : List Run) (run : Run) (behind : List Run) → l.away ≡ ahead ++ run ∷ behind → IsTrue (list_any (λ (r : Record). is_loaded_as run r && nat_lt 0 r.users) l.records)
+
 -- ---- what every token meets, said of what it shows
 
 pub record IsCpuShown (cpu : CpuShown) : Type 0 where
@@ -107,3 +120,8 @@ pub record IsCpuShown (cpu : CpuShown) : Type 0 where
 
 pub record IsCellShown (cell : CellShown) : Type 0 where
   pub holds : CellHolds cell.board.shape cell.first cell.count cell.held
+
+pub record IsListShown (list : ListShown) : Type 0 where
+  pub checked : IsChecked list.board.shape
+  pub few : length list.part.records ≤ record_limit
+  pub holds : ListHolds list.board.shape list.part

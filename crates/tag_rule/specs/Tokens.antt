@@ -2,10 +2,11 @@
 use Rattle.std.specs.Prelude.{◌≡◌, ◌≤◌, [], ◌∷◌, vec_capacity}
 use Rattle.std.specs.Arc.{arc_value}
 use Rattle.tag_model.specs.declared.state.Part.TheVariants.{Cpu, Modules, NextId}
+use Rattle.module_list.specs.Listing.{bare, listing_of}
 use Rattle.tag_rule.specs.declared.words.Words.{Words}
 use Rattle.tag_rule.specs.Fresh.{places}
 use Rattle.tag_rule.specs.Rule.{view_of}
-use Rattle.tag_rule.specs.Seated.{cpu_in, CpuHolds, CpuKept, cell_parts, CellHolds, cells_in, CellsHold, list_in}
+use Rattle.tag_rule.specs.Seated.{cpu_in, CpuHolds, CpuKept, cell_parts, CellHolds, cells_in, CellsHold, list_in, ListHolds}
 use Rattle.tag_rule.specs.Shown.{Board, CpuShown, CellShown, PoolShown, ListShown, PassShown}
 use Rattle.tag_rule.specs.declared.cpu.CpuSeat.TheInside as cpu
 use Rattle.tag_rule.specs.declared.cells.CellSeat.TheInside as cell
@@ -53,6 +54,8 @@ list_shown s = record { board = board_of (arc_value s.words); part = list_in s.s
 pub record IsListSeat (s : list.Inside) : Type 0 where
   pub table : s.seat.table_id ≡ (arc_value s.words).table.shared.table_id
   pub me : s.seat.me ≡ (view_of (Modules (list_in s.seat.me.0.parts) ∷ []), [])
+  pub holds : ListHolds (arc_value s.words).shape (list_in s.seat.me.0.parts)
+  pub kept : s.kept ≡ bare (listing_of (list_in s.seat.me.0.parts))
 
 abbrev pub pass_shown : pass.Inside → PassShown
 pass_shown s = record { board = record { table = s.seat.table_id; shape = s.shape }; next = s.next }

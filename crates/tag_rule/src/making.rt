@@ -13,17 +13,18 @@ ghost use Rattle.tag_rule.specs.Tokens.{board_of};
 
 use crate::cells::CellPool;
 use crate::cpu::CpuSeat;
-use crate::modules::{ListSeat, LoadPass, Stage};
+use crate::modules::{ListSeat, LoadPass};
 use crate::seats::take_front;
 use crate::words::{Seat, Words};
 use atomic_table::Table;
+use module_list::list::RecordList;
 use std::alloc::{AllocError, Global};
 use std::sync::Arc;
 use tag_model::index::call_word;
 use tag_model::limits::VECTOR_CELLS;
 use tag_model::shape::Shape;
 
-/// The most records that the module list has, and the most modules that a CPU is inside.
+/// The most modules that a CPU is inside.
 const ROOM: usize = 64;
 
 /// All tokens of one table.
@@ -54,10 +55,7 @@ pub fn make(alloc: Global, shape: Shape) -> Result<Seats, AllocError>
     let list = ListSeat {
         words,
         seat: list_seat,
-        records: Vec::with_capacity(alloc, ROOM)?,
-        stage: Stage::Idle,
-        listed: Vec::with_capacity(alloc, ROOM)?,
-        stops: Vec::with_capacity(alloc, ROOM)?,
+        kept: RecordList::new(alloc)?,
     };
     let loads = LoadPass {
         seat,

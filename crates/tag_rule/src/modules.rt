@@ -1,32 +1,23 @@
 //! The rights to the module list and to the next id.
 
 ghost use Rattle.std.specs.Prelude.{◌≡◌};
+ghost use Rattle.module_list.specs.Listing.{reader_of, releasable};
+ghost use Rattle.tag_rule.specs.Seated.{IsListShown};
 
 use crate::words::{Seat, Words};
+use module_list::list::RecordList;
 use std::alloc::Global;
 use std::marker::Model;
 use std::sync::Arc;
 use tag_model::shape::Shape;
-use tag_model::state::{Reader, Record, Stop};
+use tag_model::state::{Reader, Stop};
 
-/// How far a sweep is.
-#[derive(Clone, Copy, Debug, PartialEq, Eq)]
-pub(crate) enum Stage {
-    Idle,
-    Reading(Reader),
-    Done,
-}
-
-/// The right to the module list.
+/// The right to the module list. What it keeps of the list counts no users.
 #[derive(Drop)]
 pub struct ListSeat {
     pub(crate) words: Arc<Words, Global>,
     pub(crate) seat: Seat,
-    pub(crate) records: Vec<Record>,
-    pub(crate) stage: Stage,
-    /// The ids that are left on the sweep's list.
-    pub(crate) listed: Vec<u32>,
-    pub(crate) stops: Vec<Stop>,
+    pub(crate) kept: RecordList,
 }
 
 impl Model for ListSeat {
@@ -67,5 +58,42 @@ impl ListSeat {
         ensures { result ≡ self.now.board.shape }
     {
         self.words.shape
+    }
+
+    /// The word that the sweep reads next.
+    pub fn reader(&self) -> Option<Reader>
+        ensures { result ≡ reader_of self.now.part.sweep }
+    {
+        self.kept.reader()
+    }
+
+    /// The first module that a sweep that is done may release.
+    pub fn releasable(&self) -> Option<u32>
+        ensures { result ≡ releasable self.now.part.sweep }
+    {
+        self.kept.releasable()
+    }
+
+    /// What took modules off the sweep's list.
+    pub fn stops(&self) -> &[Stop]
+        ensures { result.now ≡ self.now.part.stops }
+    {
+        self.kept.stops()
+    }
+
+    /// What holds of each seat, for whoever sees its value alone.
+    pub fn tell(&self)
+        ensures { IsListShown self.now }
+    {
+        let _records = self.kept.records();
+    }
+}
+
+impl LoadPass {
+    /// One more than the last id that was given.
+    pub fn next(&self) -> u64
+        ensures { result ≡ self.now.next }
+    {
+        self.next
     }
 }

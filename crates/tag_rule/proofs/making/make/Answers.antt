@@ -49,7 +49,7 @@ invariant_of-list c =
     let same = ap (λ (w : Words). w.shape) c.in_ok-words.ensures.ok in
     let begun = c.in_ok-table.ensures.4 ∙ ap (λ (k : Shape). (first_view k, [])) (sym same) in
     let last = stage3 k m0 m1 m2 m3 (stage2 k m0 m1 m2 m2 (stage1 k m0 m1 m1 m1 begun c.in_ok-cpus.ensures.seat.1) c.in_ok-pages.ensures.seat.1) c.in_ok-objects.ensures.seat.1 in
-    list_after _ (search rules) (list_last _ _ last c.take_front-list_seat.ensures.gone.1)
+    list_after _ (search rules) (list_last _ _ last c.take_front-list_seat.ensures.gone.1) (search rules)
 
 pub invariant_of-loads : goal.invariant_of-loads
 invariant_of-loads c =
