@@ -239,9 +239,9 @@ impl Book {
             .find(|entry| entry.meets(start, size))
     }
 
-    // The least start at which `size` tags are free. Where some are covered, no start before the end of the
-    // entry that covers one is free.
-    fn least_start(&self, size: u32) -> Option<u32>
+    /// The least start at which `size` tags are free. Where some are covered, no start before the end of the
+    /// entry that covers one is free.
+    pub fn least_start(&self, size: u32) -> Option<u32>
         requires { 1 ≤ size }
         ensures { MatchOption result (HasNoRoom self.now size) (IsLeastStart self.now size) }
     {
