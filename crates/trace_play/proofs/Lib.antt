@@ -1,1 +1,4 @@
 pub mod RowLemmas
+pub mod Entries
+pub mod AloneLemmas
+pub mod SideBySide

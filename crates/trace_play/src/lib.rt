@@ -2,5 +2,7 @@
 #![tactic(auto)]
 
 mod laws;
+mod round_laws;
 
 pub use laws::{a_worked_trace_leaves_these, worked_traces_print_these};
+pub use round_laws::{a_cpu_is_alone, cpus_are_side_by_side, order_does_not_matter};

@@ -1,0 +1,38 @@
+//! Laws of the ops of a round. The functions do nothing: what they promise are laws of the definitions.
+
+ghost use Rattle.std.specs.Prelude.{ℕ, Bool, List, length, not, true, ◌<◌, ◌≡◌, ◌≢◌};
+ghost use Rattle.module_area.specs.declared.entry.Entry.{Entry};
+ghost use Rattle.trace.specs.declared.traces.OnOp.{OnOp};
+ghost use Rattle.trace.specs.declared.traces.TraceOp.{TraceOp};
+ghost use Rattle.trace_play.specs.Alone.{alone, kept, names_only, others, rejoined, rises, side_by_side, AreApart, NamesItsOwn, NoneShared, SameButOrder};
+ghost use Rattle.trace_play.specs.Barrier.{cpu_done, cpus_done};
+ghost use Rattle.trace_play.specs.Machine.{Machine};
+ghost use Rattle.trace_play.specs.Worker.{WorkerState, all_done};
+
+/// A CPU whose ops name its own keys alone does among the others' keys what it does without them: the same to its
+/// seat and to its own keys, nothing to the others, and what it did comes behind what was done.
+pub fn a_cpu_is_alone()
+    ensures done { (mine : ℕ → Bool) (entries : List Entry) (ops : List TraceOp) (w : WorkerState) → rises w.live ≡ true → names_only mine entries ops w ≡ true
+        → all_done entries ops w ≡ rejoined mine w (all_done entries ops (alone mine w)) }
+    ensures own_keys { (mine : ℕ → Bool) (entries : List Entry) (ops : List TraceOp) (w : WorkerState) → rises w.live ≡ true → names_only mine entries ops w ≡ true
+        → kept mine (all_done entries ops w).live ≡ (all_done entries ops (alone mine w)).live }
+    ensures other_keys { (mine : ℕ → Bool) (entries : List Entry) (ops : List TraceOp) (w : WorkerState) → rises w.live ≡ true → names_only mine entries ops w ≡ true
+        → kept (others mine) (all_done entries ops w).live ≡ kept (others mine) w.live }
+    ensures names { (mine : ℕ → Bool) (entries : List Entry) (ops : List TraceOp) (w : WorkerState) → rises w.live ≡ true
+        → names_only mine entries ops (alone mine w) ≡ names_only mine entries ops w }
+{}
+
+/// Where each CPU names its own keys alone and no key is of two, a round's ops do what workers do side by side, each
+/// with its own keys as they stand when the round begins.
+pub fn cpus_are_side_by_side()
+    ensures { (own : ℕ → ℕ → Bool) (ops : List OnOp) (m : Machine) → rises m.live ≡ true → NoneShared own → ((cpu : ℕ) → cpu < length m.seats → NamesItsOwn (own cpu) ops m cpu)
+        → cpus_done ops m ≡ side_by_side own ops m }
+{}
+
+/// Two CPUs that name no common key may go in either order. What is printed is the same, and so is each sum over the
+/// moves, as that of a CPU's bytes under a tag.
+pub fn order_does_not_matter()
+    ensures { (mine yours : ℕ → Bool) (ops : List OnOp) (m : Machine) (one two : ℕ) → rises m.live ≡ true → one ≢ two → AreApart mine yours
+        → NamesItsOwn mine ops m one → NamesItsOwn yours ops m two
+        → SameButOrder (cpu_done ops (cpu_done ops m one) two) (cpu_done ops (cpu_done ops m two) one) }
+{}
