@@ -83,8 +83,16 @@ done_text body m =
     ++ codes " failed " ++ decimal m.tally.failed ++ codes " uncounted " ++ decimal m.tally.uncounted
     ++ codes " live " ++ decimal (live_count m) ++ codes " kept " ++ decimal (length (dead_of m)) ++ codes "\n"
 
+-- before the first item
+abbrev pub nothing_played : Trace → Played
+nothing_played trace = record { machine = machine_of trace; text = [] }
+
+-- after some items
+abbrev pub played_so_far : Trace → Option ℕ → List Item → Outcome
+played_so_far trace top items = play trace top items (nothing_played trace)
+
 abbrev pub trace_played : Trace → Option ℕ → Outcome
-trace_played trace top = play trace top trace.body (record { machine = machine_of trace; text = [] })
+trace_played trace top = played_so_far trace top trace.body
 
 -- the text of what was played, with the last line
 abbrev pub run_text : Trace → Played → List ℕ
