@@ -32,7 +32,10 @@ sum_one f p = omega (arith, sum_by-cons f p [])
 own_place : (k : Shape) (c : CpuPart) (place : ℕ) → place < 2 * k.tags → in_range (first_word k c.number) (2 * k.tags) (first_word k c.number + place) ≡ true
 own_place k c place low = in_range_from (first_word k c.number) (2 * k.tags) (first_word k c.number + place) (omega arith) (omega arith)
 
-here : (k : Shape) (c : CpuPart) (place : ℕ) → place < 2 * k.tags → value k (first_word k c.number + place) (Cpu c) ≡ slice_index c.words place
+pub owns_place : (k : Shape) (c : CpuPart) (place : ℕ) → place < 2 * k.tags → owns k (first_word k c.number + place) (Cpu c) ≡ 1
+owns_place k c place low = rw (own_place k c place low) refl
+
+pub here : (k : Shape) (c : CpuPart) (place : ℕ) → place < 2 * k.tags → value k (first_word k c.number + place) (Cpu c) ≡ slice_index c.words place
 here k c place low =
     let at : first_word k c.number + place - first_word k c.number ≡ place = omega arith in
     rw (own_place k c place low) (ap (λ (i : ℕ). slice_index c.words i) at)
@@ -64,7 +67,7 @@ cpu_writes k c words hand place f told low becomes same keeps tells = record {
     d = record c { words = words; hand = hand }
 
     mine : owns k i (Cpu c) ≡ 1
-    mine = rw (own_place k c place low) refl
+    mine = owns_place k c place low
 
     found : sum_by (value k i) (Cpu c ∷ []) ≡ slice_index c.words place
     found = sum_one (value k i) (Cpu c) ∙ here k c place low
@@ -82,7 +85,7 @@ keeps_same k c ps qs ok b safe = safe_same k ps qs (λ f. omega (arith, b.before
 
 -- ---- the same, by the seat's view
 
-twice : (kind : Kind) (t tags : ℕ) → t < tags → word_place kind t < 2 * tags
+pub twice : (kind : Kind) (t tags : ℕ) → t < tags → word_place kind t < 2 * tags
 twice Bytes t tags h = omega arith
 twice Calls t tags h = omega arith
 

@@ -1,5 +1,5 @@
 -- What is in hand once a place is written.
-use Rattle.std.proofs.Common.{◌≡◌, ℕ, ◌+◌, ◌-◌, ◌<◌, ◌≤◌, ◌==◌, ◌&&◌, ◌⊎◌, not, sym, refl, ap, subst, ◌∙◌, arith, cond, Bool, true, false, inl, inr, Option, Some, None, eqb-true, eq-eqb, ne_eqb}
+use Rattle.std.proofs.Common.{◌≡◌, ℕ, ◌+◌, ◌<◌, ◌==◌, ◌&&◌, ◌⊎◌, not, sym, refl, ap, subst, ◌∙◌, arith, cond, Bool, true, false, inl, inr, Option, Some, None, ne_eqb}
 use Rattle.std.proofs.lemmas.Bool.{and_parts, false≢true}
 use Rattle.tag_model.specs.declared.state.CpuPart.{CpuPart}
 use Rattle.tag_model.specs.declared.state.Hand.{Hand}
@@ -8,9 +8,9 @@ use Rattle.tag_model.specs.declared.state.Held.TheVariants as held
 use Rattle.tag_model.specs.declared.state.Kind.{Kind}
 use Rattle.tag_model.specs.declared.state.Kind.TheVariants.{Bytes, Calls}
 use Rattle.tag_model.specs.declared.state.Tag.{Tag}
-use Rattle.tag_model.specs.Reference.{amount, hand_counts_of, held_counts_of, hand_fits, held_fits, is_settled, same_tag}
+use Rattle.tag_model.specs.Reference.{amount, hand_counts_of, held_counts_of, hand_fits, is_settled, same_tag}
 use Rattle.tag_model.specs.StepRules.{WritesPlace}
-use Rattle.tag_model.proofs.CpuFits.{hand_fits_means, hand_fits_from, hand_names, hand_is_counted, same_tag_refl, same_tag_means}
+use Rattle.tag_model.proofs.CpuFits.{hand_fits_means, hand_fits_from, same_tag_refl, same_tag_means}
 use Rattle.tag_rule.specs.Steps.{with_hand, left, left_hand, left_of_hand, left_of_place, or_hand, counts, hand_after}
 
 -- the hand, of no allocation

@@ -1,5 +1,5 @@
 -- A step that owes `Writes` or `Moves` keeps the rule of the table.
-use Rattle.std.proofs.Common.{◌≡◌, ℕ, ◌-◌, ◌*◌, ◌<◌, ◌==◌, ◌⊎◌, List, [], ◌∷◌, ◌++◌, length, set, slice_index, sum_by, sym, refl, subst, ◌∙◌, arith, cond, Bool, true, false, inl, inr, length-set, get_or-set_other, get_or-set_same, eq-eqb, ne_eqb}
+use Rattle.std.proofs.Common.{◌≡◌, ℕ, ◌-◌, ◌*◌, ◌<◌, ◌==◌, ◌⊎◌, List, [], ◌∷◌, ◌++◌, length, set, slice_index, sum_by, sym, refl, ap, subst, ◌∙◌, arith, cond, Bool, true, false, inl, inr, length-set, get_or-set_other, get_or-set_same, eq-eqb, ne_eqb}
 use Rattle.std.proofs.lemmas.Bool.{cases_eq}
 use Rattle.std.proofs.lemmas.List.{set-get_or}
 use Rattle.std.proofs.lemmas.List.Sums.{sum_by-cons}
@@ -16,7 +16,7 @@ use Rattle.tag_model.specs.StepRules.{Becomes}
 use Rattle.tag_model.specs.WordState.{one_if, in_range}
 use Rattle.tag_model.proofs.Places.{safe_same}
 use Rattle.tag_rule.specs.declared.view.View.{View}
-use Rattle.tag_rule.specs.Rule.{owns, value, all_parts, Ruled, view_of, Moves, Tells, Writes}
+use Rattle.tag_rule.specs.Rule.{owns, value, all_parts, Ruled, view_of, Moves, Tells, Writes, Peeks}
 use Rattle.tag_rule.proofs.Views.{changed, cut, joined}
 
 abbrev Table : Type 0
@@ -73,6 +73,9 @@ same_parts k v w same = record {
   exact = λ q. sym (same (value k q));
   safe = λ ps qs ok b safe. safe_same k ps qs (λ f. omega (arith, b.before f, b.after f, same f)) safe;
 }
+
+pub same_as : (k : Shape) (v w : List Part) → v ≡ w → Moves k v w
+same_as k v w e = same_parts k v w (λ f. ap (λ (ps : List Part). sum_by f ps) e)
 
 pub joins : (k : Shape) (id : ℕ) (v : View) (other : ℕ) (w : View) → Joins (Ruled k) id v other w (view_of (v.parts ++ w.parts)) (view_of [])
 joins k id v other w s r at apart there =
@@ -150,6 +153,27 @@ goes k slots id me i f after told low high step s r wide at small =
     subst (λ (m : ℕ). (w : View) × (a : Act (Unit {0})) × Valid s.homes me.1 a × Ruled k (stepped s i (f m) id me.1 w a) × (◌≡◌ {A = Seat} (w, carried_after me.1 a) (after m, me.1) × told m)) is
     (after n, keeps, tt, written k s i f id me after told step r at low high, (refl, step.told _ r.checked (stays _ _ _ _ b) r.safe))
 
+-- ---- a word that another seat owns is looked at
+
+pub peeks : (k : Shape) (slots id : ℕ) (me : Seat) (i : ℕ) (after : ℕ → View) (told : ℕ → Type 0) → 0 < i → i < word_count k → Peeks k i me.0.parts after told → Allows (Ruled k) slots id me i (λ n. n) (λ n x. (x ≡ (after n, me.1)) × told n)
+peeks k slots id me i after told low high p s r wide at small =
+    let n : ℕ = slice_index s.words i in
+    let w : View = after n in
+    let b = changed s.views id me.0 w at in
+    let rule : Ruled k (record { words = s.words; homes = s.homes; views = set s.views id w }) = record {
+      checked = r.checked;
+      wide = r.wide;
+      owned = λ q l h. omega (arith, r.owned q l h, b.before (owns k q), b.after (owns k q), p.owned n q);
+      exact = λ q l h. omega (arith, r.exact q l h, b.before (value k q), b.after (value k q), p.exact n q);
+      safe = p.safe n _ _ r.checked (r.exact i low high) (r.owned i low high) b r.safe;
+    } in (
+      w,
+      keeps,
+      tt,
+      subst (λ (words : List ℕ). Ruled k (record { words = words; homes = s.homes; views = set s.views id w })) (sym (set-get_or s.words i 0)) rule,
+      (refl, p.told n _ r.checked (r.exact i low high) (r.owned i low high) (stays _ _ _ _ b) r.safe),
+    )
+
 -- ---- the same by a table's key, which is its shape
 
 pub goes_at : (key k : Shape) (slots id : ℕ) (me : Seat) (i : ℕ) (f : ℕ → ℕ) (after : ℕ → View) (told : ℕ → Type 0) → key ≡ k → (0 < i) × (i < word_count k) → Writes k i f me.0.parts after told
@@ -161,3 +185,6 @@ turns_at key k slots id me w told e m tells = subst (λ (x : Shape). Allows (Rul
 
 pub splits_at : (key k : Shape) (id : ℕ) (v left right : View) → key ≡ k → Moves k v.parts (left.parts ++ right.parts) → Splits (Ruled key) id v left right
 splits_at key k id v left right e m = subst (λ (x : Shape). Splits (Ruled x) id v left right) (sym e) (splits k id v left right m)
+
+pub peeks_at : (key k : Shape) (slots id : ℕ) (me : Seat) (i : ℕ) (after : ℕ → View) (told : ℕ → Type 0) → key ≡ k → (0 < i) × (i < word_count k) → Peeks k i me.0.parts after told → Allows (Ruled key) slots id me i (λ n. n) (λ n x. (x ≡ (after n, me.1)) × told n)
+peeks_at key k slots id me i after told e place p = subst (λ (x : Shape). Allows (Ruled x) slots id me i (λ n. n) (λ n y. (y ≡ (after n, me.1)) × told n)) (sym e) (peeks k slots id me i after told place.0 place.1 p)

@@ -13,3 +13,9 @@ pub mod Dealt
 pub mod Starts
 pub mod Hands
 pub mod Scripts
+pub mod Tellings
+pub mod Away
+pub mod Peeked
+pub mod OwnRead
+pub mod Changed
+pub mod Loads

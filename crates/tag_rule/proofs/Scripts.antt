@@ -1,5 +1,5 @@
 -- The steps of the scripts that the tests play.
-use Rattle.std.proofs.Common.{◌≡◌, ℕ, ◌+◌, refl, ap, arith, true, false, inr, Option, Some, None, ◌∙◌}
+use Rattle.std.proofs.Common.{◌≡◌, refl, ap, arith, true, false, inr, Option, Some, None}
 use Rattle.tag_model.specs.declared.state.CpuPart.{CpuPart}
 use Rattle.tag_model.specs.declared.state.Hand.{Hand}
 use Rattle.tag_model.specs.declared.state.Held.{Held}

@@ -1,5 +1,5 @@
 -- A table of words that are all 0, with all parts fresh in one view, meets the rule.
-use Rattle.std.proofs.Common.{◌≡◌, ℕ, ◌+◌, ◌-◌, ◌*◌, ◌<◌, ◌≤◌, ◌==◌, zero, suc, List, [], ◌∷◌, ◌++◌, length, replicate, take, drop, get_or, append_assoc, sum_by, sym, refl, subst, ap, ◌∙◌, arith, cond, not, Bool, true, false, nat_lt, mul-le-mul_right, lt-ltb, eq-eqb}
+use Rattle.std.proofs.Common.{◌≡◌, ℕ, ◌+◌, ◌-◌, ◌*◌, ◌<◌, ◌≤◌, ◌==◌, zero, suc, List, [], ◌∷◌, ◌++◌, length, replicate, take, drop, get_or, append_assoc, sum_by, sym, refl, ap, ◌∙◌, arith, cond, not, Bool, true, false, nat_lt, mul-le-mul_right, lt-ltb, eq-eqb}
 use Rattle.std.specs.List.{list_all, range_with_len}
 use Rattle.std.proofs.lemmas.Bool.Decides.{nat_tests}
 use Rattle.std.proofs.lemmas.List.{length-replicate}
@@ -19,12 +19,12 @@ use Rattle.tag_model.specs.WordState.{one_if, Every, in_range, is_cpu, is_list, 
 use Rattle.tag_model.proofs.Fresh.{fresh_safe}
 use Rattle.std.specs.Arc.{arc_value}
 use Rattle.atomic_table.specs.Seated.{TableId}
-use Rattle.tag_model.specs.declared.state.ListPart.{ListPart}
 use Rattle.tag_rule.specs.declared.modules.ListSeat.TheInside as list
 use Rattle.tag_rule.specs.declared.view.View.{View}
 use Rattle.tag_rule.specs.declared.words.Words.{Words}
-use Rattle.module_list.specs.Listing.{bare, fresh_listing, listing_of}
-use Rattle.tag_rule.specs.Seated.{list_in, ListHolds}
+use Rattle.module_list.specs.Listing.{fresh_listing}
+use Rattle.tag_rule.specs.Seated.{list_in}
+use Rattle.tag_rule.proofs.Tellings.{list_seat}
 use Rattle.tag_rule.specs.Shown.{ListShown, PassShown}
 use Rattle.tag_rule.specs.Tokens.{board_of, IsListSeat}
 use Rattle.tag_rule.specs.Fresh.{fresh_list, cpu_at, fresh_cpus, empty_cell, places, page_count, object_count, first_parts, first_view}
@@ -242,21 +242,14 @@ module _ (k : Shape) (m0 m1 m2 m3 : Known) where
   front2 is = front_is m2 (objects_of k) tail (object_count k) (run_long (first_object k) (object_count k)) is
 
 pub list_after : (s : list.Inside) → s.seat.table_id ≡ (arc_value s.words).table.shared.table_id → s.seat.me ≡ (view_of (Modules fresh_list ∷ []), []) → s.kept ≡ fresh_listing → IsListSeat s
-list_after s table me kept =
-    let is : list_in s.seat.me.0.parts ≡ fresh_list = ap (λ (m : Known). list_in m.0.parts) me in
-    record {
-      table = table;
-      me = me ∙ ap (λ (l : ListPart). (view_of (Modules l ∷ []), [])) (sym is);
-      holds = subst (λ (l : ListPart). ListHolds (arc_value s.words).shape l) (sym is) (record {
-        rises = refl;
-        in_area = refl;
-        apart = λ t. omega arith;
-        sweep = refl;
-        users = refl;
-        away = λ ahead run behind e. absurd (nothing_there ahead run behind e);
-      });
-      kept = kept ∙ ap (λ (l : ListPart). bare (listing_of l)) (sym is);
-    }
+list_after s table me kept = list_seat s fresh_list table me (record {
+  rises = refl;
+  in_area = refl;
+  apart = λ t. omega arith;
+  sweep = refl;
+  users = refl;
+  away = λ ahead run behind e. absurd (nothing_there ahead run behind e);
+}) kept
   where
     nothing_there : (ahead : List Run) (run : Run) (behind : List Run) → ◌≡◌ {A = List Run} [] (ahead ++ run ∷ behind) → ⊥
     nothing_there [] run behind e = absurd (cc)

@@ -7,4 +7,7 @@ pub mod Parts
 pub mod Steps
 pub mod Writing
 pub mod Made
+pub mod Listed
+pub mod Kept
+pub mod Reads
 pub mod Scripts

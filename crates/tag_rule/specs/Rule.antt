@@ -60,3 +60,10 @@ pub record Writes (k : Shape) (i : ℕ) (f : ℕ → ℕ) (v : List Part) (after
   pub exact : (q : ℕ) → sum_by (value k q) (after (sum_by (value k i) v)).parts ≡ (if q == i then f (sum_by (value k i) v) else sum_by (value k q) v)
   pub safe : (ps qs : List Part) → IsChecked k → Becomes v (after (sum_by (value k i) v)).parts ps qs → Safe k ps → Safe k qs
   pub told : Tells k v (tells (sum_by (value k i) v))
+
+-- a load of a word that another seat owns: the parts of the loading seat become others by what is found, with no word changed
+pub record Peeks (k : Shape) (i : ℕ) (v : List Part) (after : ℕ → View) (tells : ℕ → Type 0) : Type 0 where
+  pub owned : (n q : ℕ) → sum_by (owns k q) (after n).parts ≡ sum_by (owns k q) v
+  pub exact : (n q : ℕ) → sum_by (value k q) (after n).parts ≡ sum_by (value k q) v
+  pub safe : (n : ℕ) (ps qs : List Part) → IsChecked k → sum_by (value k i) ps ≡ n → sum_by (owns k i) ps ≡ 1 → Becomes v (after n).parts ps qs → Safe k ps → Safe k qs
+  pub told : (n : ℕ) (ps : List Part) → IsChecked k → sum_by (value k i) ps ≡ n → sum_by (owns k i) ps ≡ 1 → Becomes v v ps ps → Safe k ps → tells n

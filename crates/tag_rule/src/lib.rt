@@ -3,13 +3,16 @@
 
 mod adding;
 mod cells;
+mod changing;
 mod cpu;
 pub mod laws;
+mod loading;
 mod making;
 mod modules;
 mod parting;
 mod reading;
 mod rule;
+mod scanning;
 mod seats;
 mod sending;
 mod subtracting;
@@ -21,11 +24,14 @@ mod writing;
 
 pub use adding::{add_bytes, add_call};
 pub use cells::{CellPool, CellSeat};
+pub use changing::{Change, change_list};
 pub use cpu::CpuSeat;
+pub use loading::load_list;
 pub use making::{Seats, make};
 pub use modules::{ListSeat, LoadPass};
 pub use parting::{divide, part, unite};
 pub use reading::read_own;
+pub use scanning::{scan_byte, scan_call, scan_own};
 pub use sending::tokens_cross_threads;
 pub use subtracting::{sub_bytes, sub_call};
 pub use view::View;

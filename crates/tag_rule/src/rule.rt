@@ -45,6 +45,17 @@ pub trait Halves {
     ghost gone: { View };
 }
 
+/// How the parts that two seats have together are divided anew, and what that tells.
+pub trait Exchange {
+    ghost use Rattle.tag_rule.specs.declared.view.View.{View};
+
+    ghost kept: { View };
+
+    ghost gone: { View };
+
+    ghost told: { Type 0 };
+}
+
 impl After for Brand {
     ghost use Rattle.std.specs.Prelude.{[]};
     ghost use Rattle.tag_rule.specs.Rule.{view_of};
@@ -72,7 +83,18 @@ impl Halves for Brand {
     ghost gone = { view_of [] };
 }
 
-/// A step on a word that the seat owns.
+impl Exchange for Brand {
+    ghost use Rattle.std.specs.Prelude.{[]};
+    ghost use Rattle.tag_rule.specs.Rule.{view_of};
+
+    ghost kept = { view_of [] };
+
+    ghost gone = { view_of [] };
+
+    ghost told = { Unit {0} };
+}
+
+/// A step on a word.
 pub(crate) struct Goes<W> {
     to: PhantomData<W>,
 }
