@@ -19,3 +19,5 @@ pub mod Peeked
 pub mod OwnRead
 pub mod Changed
 pub mod Loads
+pub mod Meets
+pub mod GivenRuns

@@ -11,3 +11,6 @@ pub mod Listed
 pub mod Kept
 pub mod Reads
 pub mod Scripts
+pub mod Names
+pub mod Runs
+pub mod Meeting
