@@ -1,7 +1,7 @@
 -- The classes of objects by size, and the slabs of each.
 use Rattle.std.specs.Prelude.{ℕ, ◌/◌, nat_le, nat_lt, min, Option, List, [], ◌∷◌, unwrap_or, if◌then◌else◌}
 use Rattle.std.specs.List.{find, range_with_len}
-use Rattle.slab_cache.specs.Blocks.{page_bytes}
+use Rattle.page_ext.specs.Blocks.{page_bytes}
 
 -- the bytes of the classes
 abbrev pub classes : List ℕ

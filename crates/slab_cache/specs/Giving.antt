@@ -4,7 +4,7 @@ use Rattle.tag_model.specs.declared.state.Tag.{Tag}
 use Rattle.tag_model.specs.Moves.{Move}
 use Rattle.tag_model.specs.RefMoves.{reference_to, open_moves}
 use Rattle.buddy.specs.Frames.{least_start}
-use Rattle.slab_cache.specs.Blocks.{block_at}
+use Rattle.page_ext.specs.Blocks.{block_at}
 use Rattle.slab_cache.specs.Classes.{class_of, slab_order, order_of}
 use Rattle.slab_cache.specs.Slabs.{Slab, NodeState, slab_at, with_slab, with_pages, with_vector, lowest_vector, open_frame, free_place, with_place, new_slab, slab_held}
 use Rattle.slab_cache.specs.Storage.{Storage, Pages, held_of, object_at}

@@ -1,4 +1,3 @@
-pub mod Blocks
 pub mod Classes
 pub mod Slabs
 pub mod Storage

@@ -4,7 +4,7 @@ use Rattle.std.specs.List.{list_any}
 use Rattle.tag_model.specs.declared.state.Tag.{Tag}
 use Rattle.tag_model.specs.declared.state.Held.{Held}
 use Rattle.tag_model.specs.RefMoves.{reference_to}
-use Rattle.slab_cache.specs.Blocks.{Node, page_bytes, with_frames}
+use Rattle.page_ext.specs.Blocks.{Node, page_bytes, with_frames}
 use Rattle.slab_cache.specs.Classes.{slab_order, objects_in}
 
 -- a slab: its class, its places, each taken or free, and the vector of their cells, if it has one

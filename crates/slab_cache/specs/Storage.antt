@@ -2,7 +2,7 @@
 use Rattle.std.specs.Prelude.{ℕ, Bool, true, false, Option, Some, None}
 use Rattle.tag_model.specs.declared.state.Held.{Held}
 use Rattle.tag_model.specs.declared.state.Held.TheVariants as held
-use Rattle.slab_cache.specs.Blocks.{Block}
+use Rattle.page_ext.specs.Blocks.{Block}
 
 -- a block; an object, by the frame of its slab, its place there, the vector of its cell and what that holds; an object without a cell
 pub data Storage : Type 0 where

@@ -14,7 +14,7 @@ use Rattle.slab_cache.specs.Giving.{Given}
 use Rattle.slab_cache.specs.Homing.{come_home}
 use Rattle.trace.specs.declared.traces.TraceOp.{TraceOp}
 use Rattle.trace.specs.declared.traces.TraceOp.TheVariants as op
-use Rattle.trace_play.specs.Parts.{parts_in}
+use Rattle.split_swap.specs.Parts.{parts_in}
 use Rattle.trace_play.specs.Live.{Content, Nothing, Stored, Live, content_at, put, without, held_of, order_of, with_held, is_nothing, part_in, part_key, swap_live}
 use Rattle.trace_play.specs.Worker.{Seat, Tally, WorkerState, with_moves, with_live, with_node, allocated, is_home, given_back, freed, split, trim, one_given, with_taken, sent_home, done, all_done}
 use Rattle.trace_play.specs.Alone.{rises, kept, named_by, names_only, alone, joined, put_all, others, rejoined}

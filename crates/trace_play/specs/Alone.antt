@@ -8,7 +8,7 @@ use Rattle.module_area.specs.declared.entry.Entry.{Entry}
 use Rattle.trace.specs.declared.traces.OnOp.{OnOp}
 use Rattle.trace.specs.declared.traces.TraceOp.{TraceOp}
 use Rattle.trace.specs.declared.traces.TraceOp.TheVariants as op
-use Rattle.trace_play.specs.Parts.{parts_in}
+use Rattle.split_swap.specs.Parts.{parts_in}
 use Rattle.trace_play.specs.Live.{Live, content_at, put, order_of}
 use Rattle.trace_play.specs.Worker.{Tally, WorkerState, done, all_done}
 use Rattle.trace_play.specs.Machine.{Machine, nothing_done, worker_at, with_worker}

@@ -6,7 +6,7 @@ use Rattle.std.specs.FinMap.Entries as entries
 use Rattle.tag_model.specs.declared.state.Held.{Held}
 use Rattle.tag_model.specs.declared.state.Held.TheVariants as held
 use Rattle.tag_model.specs.RefMoves.{trimmed}
-use Rattle.trace_play.specs.Parts.{part_at, parts_in}
+use Rattle.split_swap.specs.Parts.{part_at, parts_in}
 use Rattle.slab_cache.specs.Storage as storage
 use Rattle.slab_cache.specs.Storage.{Storage, Pages, Object, Uncounted}
 

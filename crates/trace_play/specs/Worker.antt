@@ -6,7 +6,7 @@ use Rattle.tag_model.specs.Moves.{Move}
 use Rattle.tag_model.specs.RefMoves.{close_moves, split_moves, trim_moves}
 use Rattle.module_area.specs.declared.entry.Entry.{Entry}
 use Rattle.module_area.specs.Entries.{is_loaded_as}
-use Rattle.trace_play.specs.Parts.{parts_in}
+use Rattle.split_swap.specs.Parts.{parts_in}
 use Rattle.slab_cache.specs.Slabs.{NodeState}
 use Rattle.slab_cache.specs.Storage.{Storage, home_of, has_cell}
 use Rattle.slab_cache.specs.Giving.{Given, given_block, given_object}
