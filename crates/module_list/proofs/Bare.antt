@@ -13,7 +13,7 @@ use Rattle.tag_model.specs.declared.state.Sweep.TheVariants as sweep
 use Rattle.tag_model.specs.Laws.{are_dead, is_listed, rises_from, sweep_fits}
 use Rattle.tag_model.specs.WordState.{in_range}
 use Rattle.tag_model.specs.StepRules.{after_pass, begins_pass, dead_ids, end_of, goes_on, passes_record, start_of, stop_after, sweep_after, without_id}
-use Rattle.module_list.specs.Listing.{Listing, bare, bare_record, dead_record, entered, entered_record, left, left_record, loaded, marked_dead, released, released_at, scanned, scanned_at, sum_read, swept, with_record}
+use Rattle.module_list.specs.Listing.{Listing, bare, bare_record, dead_record, entered, entered_record, left, left_record, loaded, marked_dead, read_to, read_to_at, released, released_at, scanned, scanned_at, sum_read, swept, with_record}
 
 -- ---- sums and filters over the bare records
 
@@ -125,6 +125,14 @@ bare_scanned k word l = go l.sweep
     go (sweep.Reading left r) =
         let of : Sweep → Listing = λ s. record { records = map bare_record l.records; sweep = s; stops = l.stops ++ stop_after k r (sum_read r word) } in
         ap of (sym (after_read_bare k l.records left r (sum_read r word)))
+
+pub bare_read_to : (cpu sum : ℕ) (l : Listing) → bare (read_to cpu sum l) ≡ read_to cpu sum (bare l)
+bare_read_to cpu sum l = go l.sweep
+  where
+    go : (s : Sweep) → bare (read_to_at cpu sum l s) ≡ read_to_at cpu sum (bare l) s
+    go sweep.None = refl
+    go (sweep.Done left) = refl
+    go (sweep.Reading left r) = refl
 
 pub bare_released : (l : Listing) (id : ℕ) → bare (released id l) ≡ released id (bare l)
 bare_released l id = go l.sweep

@@ -1,5 +1,5 @@
 -- Each change of the list is a step of the step rules.
-use Rattle.std.proofs.Common.{◌≡◌, ℕ, ◌+◌, ◌-◌, ◌<◌, ◌≤◌, ◌||◌, ◌⊎◌, nat_le, List, [], ◌∷◌, ◌++◌, count_by, slice_index, Some, refl, sym, ap, ◌∙◌, subst, inl, inr, arith, true, false, leb-true}
+use Rattle.std.proofs.Common.{◌≡◌, ℕ, ◌+◌, ◌-◌, ◌<◌, ◌≤◌, ◌||◌, ◌⊎◌, nat_le, List, [], ◌∷◌, ◌++◌, count_by, slice_index, Some, refl, sym, ap, ◌∙◌, subst, inl, inr, arith, true, false, leb-true, lt-ltb, append-nil, nat_lt, None}
 use Rattle.std.specs.List.{list_all}
 use Rattle.std.proofs.lemmas.Bool.{or_cases, cases_lt}
 use Rattle.tag_model.specs.declared.shape.Shape.{Shape}
@@ -15,7 +15,7 @@ use Rattle.tag_model.specs.StepRules.{Enters, Leaves, Loads, MarksDead, Releases
 use Rattle.tag_model.specs.WordState.{in_range, word_place}
 use Rattle.tag_model.proofs.Found.{found, all_at}
 use Rattle.tag_model.proofs.Lists.{in_range_means}
-use Rattle.module_list.specs.Listing.{Listing, dead_record, entered, entered_record, left, left_record, list_part, loaded, marked_dead, record_in, released, released_at, scanned, scanned_at}
+use Rattle.module_list.specs.Listing.{Listing, dead_record, entered, entered_record, left, left_record, list_part, found_at, loaded, marked_dead, read_to, read_to_at, record_in, released, released_at, scanned, scanned_at, sum_read}
 use Rattle.module_list.proofs.At.{record_at}
 
 -- ranges that a load stays clear of don't have its tags
@@ -88,6 +88,16 @@ pub row-scans : (k : Shape) (l : Listing) (reads : ℕ) (away : List Run) (ids :
     → Scans k ids r cpu (list_part reads away l) (list_part (reads + 1) away (scanned k (slice_index cpu.words (word_place r.pass r.tag)) l))
 row-scans k l reads away ids r cpu reading next =
     record { reading = reading; next = next; after = ap (λ s. list_part (reads + 1) away (scanned_at k (slice_index cpu.words (word_place r.pass r.tag)) l s)) reading }
+
+-- ---- a read of a word that isn't the last CPU's
+
+pub scan_goes_on : (k : Shape) (word : ℕ) (l : Listing) (ids : List ℕ) (r : Reader) → l.sweep ≡ sweep.Reading ids r → r.cpu + 1 < k.cpus → scanned k word l ≡ read_to (r.cpu + 1) (sum_read r word) l
+scan_goes_on k word l ids r reading more =
+    let before : nat_lt (r.cpu + 1) k.cpus ≡ true = lt-ltb (r.cpu + 1) k.cpus more in
+    subst (λ s. scanned_at k word l s ≡ read_to_at (r.cpu + 1) (sum_read r word) l s) (sym reading) (rw (before, append-nil) refl)
+
+pub scan_finds_nothing : (k : Shape) (word : ℕ) (ids : List ℕ) (r : Reader) → r.cpu + 1 < k.cpus → found_at k word (sweep.Reading ids r) ≡ None
+scan_finds_nothing k word ids r more = rw (lt-ltb (r.cpu + 1) k.cpus more) refl
 
 pub row-releases : (l : Listing) (reads id : ℕ) (away : List Run) (ids : List ℕ) → l.sweep ≡ sweep.Done ids → is_listed ids id ≡ true → Releases ids id (list_part reads away l) (list_part reads away (released id l))
 row-releases l reads id away ids done listed = record { done = done; listed = listed; after = ap (λ s. list_part reads away (released_at id l s)) done }

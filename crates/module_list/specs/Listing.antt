@@ -82,6 +82,15 @@ scanned_at k word l (sweep.Reading left r) = record l { sweep = sweep_after k l.
 abbrev pub scanned : Shape → ℕ → Listing → Listing
 scanned k word l = scanned_at k word l l.sweep
 
+abbrev pub read_to_at : ℕ → ℕ → Listing → Sweep → Listing
+read_to_at cpu sum l sweep.None = l
+read_to_at cpu sum l (sweep.Done left) = l
+read_to_at cpu sum l (sweep.Reading left r) = record l { sweep = sweep.Reading left (record r { cpu = cpu; sum = sum }) }
+
+-- the sweep is at this CPU of the tag that it reads, and has this sum
+abbrev pub read_to : ℕ → ℕ → Listing → Listing
+read_to cpu sum l = read_to_at cpu sum l l.sweep
+
 -- what a read finds, where it takes the module off the sweep's list
 abbrev pub found_at : Shape → ℕ → Sweep → Option Stop
 found_at k word sweep.None = None

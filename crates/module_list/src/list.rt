@@ -6,7 +6,7 @@ ghost use Rattle.tag_model.specs.Shape.{IsChecked};
 ghost use Rattle.tag_model.specs.Laws.{ids_of, rises_from, sweep_fits};
 ghost use Rattle.tag_model.specs.StepRules.{after_pass, begins_pass, dead_ids, end_of, passes_record, start_of};
 ghost use Rattle.tag_model.specs.declared.state.Record.{Record};
-ghost use Rattle.module_list.specs.Listing.{IsListing, bare_record, found_at, fresh_listing, loaded, marked_dead, may_release, reader_of, record_in, record_limit, releasable, released, scanned, swept};
+ghost use Rattle.module_list.specs.Listing.{IsListing, bare_record, found_at, fresh_listing, loaded, marked_dead, may_release, read_to, reader_of, record_in, record_limit, releasable, released, scanned, swept};
 ghost use Rattle.module_list.specs.Stages.{passes_tag, sweep_of};
 
 use std::alloc::{AllocError, Global};
@@ -181,6 +181,16 @@ impl RecordList {
         self.left.retain(|other| *other != reader.id);
         self.stage = pass_record(&self.records, &self.left, reader.pass, reader.id);
         Some(stop)
+    }
+
+    /// The sweep goes on in the tag that it reads, from this CPU on and with this sum. Who calls this has read the words
+    /// in between.
+    pub fn read_to(&mut self, cpu: u32, sum: u64)
+        ensures { self.new ≡ read_to cpu sum self.old }
+    {
+        if let Stage::Reading(reader) = self.stage {
+            self.stage = Stage::Reading(Reader { cpu, sum, ..reader });
+        }
     }
 
     /// Releases a module on the list of a sweep that is done.

@@ -2,7 +2,7 @@
 //! definitions.
 
 ghost use Rattle.std.specs.List.{list_all};
-ghost use Rattle.std.specs.Prelude.{ℕ, ◌≡◌, ◌+◌, ◌<◌, ◌≤◌, ◌||◌, nat_le, IsTrue, Some, false, List, ◌∷◌, ◌++◌, slice_index};
+ghost use Rattle.std.specs.Prelude.{ℕ, ◌≡◌, ◌+◌, ◌<◌, ◌≤◌, ◌||◌, nat_le, IsTrue, None, Some, false, List, ◌∷◌, ◌++◌, slice_index};
 ghost use Rattle.tag_model.specs.Laws.{ids_of, is_listed, rises_from, sweep_fits};
 ghost use Rattle.tag_model.specs.StepRules.{Enters, Leaves, Loads, MarksDead, Releases, Scans, Sweeps, run_on};
 ghost use Rattle.tag_model.specs.WordState.{word_place};
@@ -12,7 +12,7 @@ ghost use Rattle.tag_model.specs.declared.state.Reader.{Reader};
 ghost use Rattle.tag_model.specs.declared.state.Record.{Record};
 ghost use Rattle.tag_model.specs.declared.state.Run.{Run};
 ghost use Rattle.tag_model.specs.declared.state.Sweep.TheVariants as sweep;
-ghost use Rattle.module_list.specs.Listing.{Listing, bare, entered, left, list_part, loaded, marked_dead, record_in, released, scanned, swept};
+ghost use Rattle.module_list.specs.Listing.{Listing, bare, entered, found_at, left, list_part, loaded, marked_dead, read_to, record_in, released, scanned, sum_read, swept};
 
 /// Each change of the list is a step of the step rules: a load over a range that meets no record, an enter of a loaded
 /// module, a leave of a run on its way, a dead mark where there are no users, a sweep, a read, a release.
@@ -31,6 +31,12 @@ pub fn changes_are_rows()
     ensures releases { (l : Listing) (reads id : ℕ) (away : List Run) (left : List ℕ) → l.sweep ≡ sweep.Done left → IsTrue (is_listed left id) → Releases left id (list_part reads away l) (list_part reads away (released id l)) }
 {}
 
+/// A read of a word that isn't the last CPU's goes on to the next CPU, and takes no module off the list.
+pub fn reads_before_the_last_cpu()
+    ensures goes_on { (k : Shape) (word : ℕ) (l : Listing) (left : List ℕ) (r : Reader) → l.sweep ≡ sweep.Reading left r → r.cpu + 1 < k.cpus → scanned k word l ≡ read_to (r.cpu + 1) (sum_read r word) l }
+    ensures finds_nothing { (k : Shape) (word : ℕ) (left : List ℕ) (r : Reader) → r.cpu + 1 < k.cpus → found_at k word (sweep.Reading left r) ≡ None }
+{}
+
 /// What is kept at run time, without the users, goes along with the list: each change of the list is that change of what
 /// is kept, and an enter or a leave changes nothing there.
 pub fn what_is_kept_goes_along()
@@ -40,6 +46,7 @@ pub fn what_is_kept_goes_along()
     ensures marks_dead { (l : Listing) (id : ℕ) → bare (marked_dead id l) ≡ marked_dead id (bare l) }
     ensures sweeps { (l : Listing) → bare (swept l) ≡ swept (bare l) }
     ensures scans { (k : Shape) (word : ℕ) (l : Listing) → bare (scanned k word l) ≡ scanned k word (bare l) }
+    ensures reads { (cpu sum : ℕ) (l : Listing) → bare (read_to cpu sum l) ≡ read_to cpu sum (bare l) }
     ensures releases { (l : Listing) (id : ℕ) → bare (released id l) ≡ released id (bare l) }
     ensures fits { (k : Shape) (l : Listing) → sweep_fits k l.sweep (bare l).records ≡ sweep_fits k l.sweep l.records }
 {}

@@ -1,4 +1,4 @@
-use Rattle.module_list.proofs.Bare.{bare_entered, bare_left, bare_loaded, bare_marked_dead, bare_released, bare_scanned, bare_swept, fits_bare}
+use Rattle.module_list.proofs.Bare.{bare_entered, bare_left, bare_loaded, bare_marked_dead, bare_read_to, bare_released, bare_scanned, bare_swept, fits_bare}
 use Rattle.module_list.proofs.row_laws.what_is_kept_goes_along.Goals as goal
 
 pub returns-clause-loads : goal.returns-clause-loads
@@ -18,6 +18,9 @@ returns-clause-sweeps c l = bare_swept l
 
 pub returns-clause-scans : goal.returns-clause-scans
 returns-clause-scans c k word l = bare_scanned k word l
+
+pub returns-clause-reads : goal.returns-clause-reads
+returns-clause-reads c cpu sum l = bare_read_to cpu sum l
 
 pub returns-clause-releases : goal.returns-clause-releases
 returns-clause-releases c l id = bare_released l id
