@@ -1,5 +1,5 @@
 -- Each change of the list is a step of the step rules.
-use Rattle.std.proofs.Common.{◌≡◌, ℕ, ◌+◌, ◌≤◌, List, ◌∷◌, ◌++◌, slice_index, Some, None, refl, sym, ap, ◌∙◌, arith, eq-eqb}
+use Rattle.std.proofs.Common.{◌≡◌, ℕ, ◌+◌, ◌≤◌, List, ◌∷◌, ◌++◌, slice_index, Some, None, refl, sym, ap, ◌∙◌, subst, arith, eq-eqb, ◌<◌, nat_lt, lt-ltb, true, append-nil}
 use Rattle.std.proofs.lemmas.Bool.{or_left}
 use Rattle.tag_model.specs.declared.shape.Shape.{Shape}
 use Rattle.tag_model.specs.declared.state.CpuPart.{CpuPart}
@@ -15,7 +15,7 @@ use Rattle.module_area.specs.Area.{least_start}
 use Rattle.module_list.specs.Listing as listing
 use Rattle.module_list.specs.Listing.{Listing}
 use Rattle.module_list.proofs.Changes as row
-use Rattle.core_list.specs.ListState.{ListState, IsList, record_of, dead_list, entered_list, left_list, list_part, listed, load_refusal, loaded, or_zero, released, run_of, scanned}
+use Rattle.core_list.specs.ListState.{ListState, IsList, record_of, dead_list, entered_list, left_list, list_part, listed, load_refusal, loaded, or_zero, read_to, read_to_at, released, run_of, scanned, scanned_at, sum_read}
 use Rattle.core_list.proofs.Listed.{listed_dead, listed_entered, listed_left, listed_loaded, listed_released, listed_scanned, record_found}
 use Rattle.core_list.proofs.Split.{book_rises}
 use Rattle.core_list.proofs.Room.{may_load, least_is_free, unmet_clear}
@@ -78,6 +78,12 @@ pub row-scans : (k : Shape) (l : ListState) (n : ℕ) (away : List Run) (left : 
 row-scans k l n away left r cpu reading next =
     let base = row.row-scans k (listed l) n away left r cpu reading next in
     record { reading = base.reading; next = base.next; after = ap (listing.list_part (n + 1) away) (listed_scanned k (slice_index cpu.words (word_place r.pass r.tag)) l) ∙ base.after }
+
+-- a read of a word that isn't the last CPU's
+pub scan_goes_on : (k : Shape) (word : ℕ) (l : ListState) (ids : List ℕ) (r : Reader) → l.sweep ≡ sweep.Reading ids r → r.cpu + 1 < k.cpus → scanned k word l ≡ read_to (r.cpu + 1) (sum_read r word) l
+scan_goes_on k word l ids r reading more =
+    let before : nat_lt (r.cpu + 1) k.cpus ≡ true = lt-ltb (r.cpu + 1) k.cpus more in
+    subst (λ s. scanned_at k word l s ≡ read_to_at (r.cpu + 1) (sum_read r word) l s) (sym reading) (rw (before, append-nil) refl)
 
 pub row-releases : (l : ListState) (n id : ℕ) (away : List Run) (left : List ℕ) → l.sweep ≡ sweep.Done (id ∷ left) → Releases (id ∷ left) id (list_part n away l) (list_part n away (released l))
 row-releases l n id away left done =

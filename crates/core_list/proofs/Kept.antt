@@ -22,7 +22,7 @@ use Rattle.module_area.proofs.EntryLemmas.{find_none}
 use Rattle.module_area.proofs.StartLemmas.{free_from_none}
 use Rattle.module_area.proofs.BookLemmas.{KeepsRange, IsBook-filter, IsBook-push}
 use Rattle.core_list.specs.declared.list.TheConstants.{LAST_ID}
-use Rattle.core_list.specs.ListState.{ListState, IsList, record_of, records_of, left_ids, load_refusal, loaded, new_entry, or_zero, least_start, with_changed, entered_list, left_list, dead_list, swept_list, sum_read, scanned, scanned_at, released, released_at}
+use Rattle.core_list.specs.ListState.{ListState, IsList, record_of, records_of, left_ids, load_refusal, loaded, new_entry, or_zero, least_start, with_changed, entered_list, left_list, dead_list, swept_list, sum_read, scanned, scanned_at, read_to, read_to_at, released, released_at}
 use Rattle.core_list.proofs.Room.{may_load, least_is_free}
 
 -- a list by its parts
@@ -106,6 +106,14 @@ list_swept l ok =
     record { book = ok.book; given = ok.given; last = ok.last; few = omega (arith, ok.book.few, dead_not_more l.area.entries) }
 
 -- ---- a read
+
+pub list_read_to : (cpu sum : ℕ) (l : ListState) → IsList l → IsList (read_to cpu sum l)
+list_read_to cpu sum l ok = go l.sweep ok.few
+  where
+    go : (s : Sweep) → length l.stops + length (left_ids s) ≤ BOOK_LIMIT → IsList (read_to_at cpu sum l s)
+    go sweep.None few = ok
+    go (sweep.Done left) few = ok
+    go (sweep.Reading left r) few = record { book = ok.book; given = ok.given; last = ok.last; few = few }
 
 pub list_scanned : (k : Shape) (word : ℕ) (l : ListState) → IsList l → sweep_fits k l.sweep (records_of l) ≡ true → IsList (scanned k word l)
 list_scanned k word l ok fits = go l.sweep ok.few fits

@@ -12,7 +12,7 @@ use Rattle.module_area.specs.Entries.{entry_of, entered, kept, left, with_entry}
 use Rattle.module_area.specs.Area.{least_start}
 use Rattle.module_list.specs.Listing as listing
 use Rattle.module_list.specs.Listing.{Listing, dead_record, entered_record, left_record, record_in, with_record}
-use Rattle.core_list.specs.ListState.{ListState, dead_list, entered_list, left_list, listed, loaded, new_entry, or_zero, record_of, released, released_at, scanned, scanned_at}
+use Rattle.core_list.specs.ListState.{ListState, dead_list, entered_list, left_list, listed, loaded, new_entry, or_zero, record_of, released, released_at, scanned, scanned_at, read_to, read_to_at}
 use Rattle.core_list.proofs.Split.{records_without}
 
 -- ---- records
@@ -62,6 +62,14 @@ pub listed_scanned : (k : Shape) (word : ℕ) (l : ListState) → listed (scanne
 listed_scanned k word l = go l.sweep
   where
     go : (s : Sweep) → listed (scanned_at k word l s) ≡ listing.scanned_at k word (listed l) s
+    go sweep.None = refl
+    go (sweep.Done ids) = refl
+    go (sweep.Reading ids r) = refl
+
+pub listed_read_to : (cpu sum : ℕ) (l : ListState) → listed (read_to cpu sum l) ≡ listing.read_to cpu sum (listed l)
+listed_read_to cpu sum l = go l.sweep
+  where
+    go : (s : Sweep) → listed (read_to_at cpu sum l s) ≡ listing.read_to_at cpu sum (listed l) s
     go sweep.None = refl
     go (sweep.Done ids) = refl
     go (sweep.Reading ids r) = refl

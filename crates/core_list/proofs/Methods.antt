@@ -15,7 +15,7 @@ use Rattle.module_area.specs.Entries.{entry_of, is_dead, without_entry}
 use Rattle.module_area.specs.Area.{Area, IsBook}
 use Rattle.module_list.specs.Listing.{Listing, bare, bare_record, may_release, record_in, releasable}
 use Rattle.module_list.proofs.Bare.{fits_bare}
-use Rattle.core_list.specs.ListState.{ListState, left_ids, listed, record_of, released, released_at, scanned, scanned_at}
+use Rattle.core_list.specs.ListState.{ListState, left_ids, listed, record_of, released, released_at, read_to, read_to_at, scanned, scanned_at}
 use Rattle.core_list.proofs.Split.{the_entry}
 
 -- the list by its fields
@@ -94,6 +94,22 @@ pub last_scanned : (k : Shape) (word : ℕ) (l : ListState) → (scanned k word 
 last_scanned k word l = go l.sweep
   where
     go : (s : Sweep) → (scanned_at k word l s).last_id ≡ l.last_id
+    go sweep.None = refl
+    go (sweep.Done left) = refl
+    go (sweep.Reading left r) = refl
+
+pub area_read_to : (cpu sum : ℕ) (l : ListState) → ◌≡◌ {A = Area} (read_to cpu sum l).area l.area
+area_read_to cpu sum l = go l.sweep
+  where
+    go : (s : Sweep) → ◌≡◌ {A = Area} (read_to_at cpu sum l s).area l.area
+    go sweep.None = refl
+    go (sweep.Done left) = refl
+    go (sweep.Reading left r) = refl
+
+pub last_read_to : (cpu sum : ℕ) (l : ListState) → (read_to cpu sum l).last_id ≡ l.last_id
+last_read_to cpu sum l = go l.sweep
+  where
+    go : (s : Sweep) → (read_to_at cpu sum l s).last_id ≡ l.last_id
     go sweep.None = refl
     go (sweep.Done left) = refl
     go (sweep.Reading left r) = refl

@@ -1,5 +1,5 @@
 -- What reserving a range answers is what the load is refused by.
-use Rattle.std.proofs.Common.{◌≡◌, ◌≢◌, ℕ, zero, suc, ◌+◌, ◌<◌, ◌≤◌, ◌==◌, ◌||◌, ◌⊎◌, nat_le, List, [], ◌∷◌, length, find, All, Any, Option, Some, None, Result, Ok, Err, get_or, ◌↔◌, refl, sym, ap, ◌∙◌, inl, inr, arith, Bool, true, false, not, cond, eqb-true, leb-true, eq-eqb, ne_eqb, le-leb, if◌then◌else◌}
+use Rattle.std.proofs.Common.{◌≡◌, ◌≢◌, ℕ, zero, suc, ◌+◌, ◌<◌, ◌≤◌, ◌==◌, ◌||◌, ◌⊎◌, nat_le, List, [], ◌∷◌, length, find, All, Any, Option, Some, None, is_some, Result, Ok, Err, get_or, ◌↔◌, refl, sym, ap, ◌∙◌, inl, inr, arith, Bool, true, false, not, cond, eqb-true, leb-true, eq-eqb, ne_eqb, le-leb, if◌then◌else◌}
 use Rattle.std.specs.List.{list_any, range_with_len}
 use Rattle.std.specs.Result.{IsErrOf}
 use Rattle.std.proofs.lemmas.List.{get_or_default}
@@ -16,7 +16,7 @@ use Rattle.module_area.specs.Area.{is_free_at, least_start, Area, LiesIn, IsLeas
 use Rattle.module_area.proofs.EntryLemmas.{find_some, find_none}
 use Rattle.module_area.proofs.StartLemmas.{free_from_none, found, met_later}
 use Rattle.core_list.specs.declared.list.TheConstants.{LAST_ID}
-use Rattle.core_list.specs.ListState.{ListState, load_refusal, loaded_entry, is_some_entry, unless_room}
+use Rattle.core_list.specs.ListState.{ListState, load_refusal, loaded_entry, unless_room}
 use Rattle.core_list.proofs.Kept.{find_unmet, loaded_means}
 
 -- ---- the first number of a range that passes a test
@@ -73,7 +73,7 @@ no_least_start area size none = find_nothing (is_free_at area size) area.first (
 -- ---- the section's loaded entry
 
 -- an entry that is found by its section is loaded
-state_means : (state : State) (other section : ℕ) → is_loaded_at state other section ≡ true → (state ≡ Loaded) × (other ≡ section)
+pub state_means : (state : State) (other section : ℕ) → is_loaded_at state other section ≡ true → (state ≡ Loaded) × (other ≡ section)
 state_means Loaded other section is = (refl, eqb-true other section is)
 state_means Dead other section is = absurd (false≢true is)
 
@@ -87,10 +87,10 @@ unnamed_found section l none = go (loaded_entry section l) refl
     go None is = refl
     go (Some e) is = let f = find_some (is_loaded_as section) l.area.entries e is in absurd (All-contains (λ x. ¬ IsLoadedAs section x) l.area.entries e none f.0 (means e f.1))
 
-named_found : (section : ℕ) (l : ListState) → Any (IsLoadedAs section) l.area.entries → is_some_entry (loaded_entry section l) ≡ true
+named_found : (section : ℕ) (l : ListState) → Any (IsLoadedAs section) l.area.entries → is_some (loaded_entry section l) ≡ true
 named_found section l named = go (loaded_entry section l) refl
   where
-    go : (o : Option Entry) → loaded_entry section l ≡ o → is_some_entry o ≡ true
+    go : (o : Option Entry) → loaded_entry section l ≡ o → is_some o ≡ true
     go (Some e) is = refl
     go None is =
         let no_one = find_none (is_loaded_as section) l.area.entries is named.0 named.1 named.2 in
@@ -99,12 +99,12 @@ named_found section l named = go (loaded_entry section l) refl
 -- ---- the refusal
 
 pub refused_name : (section size : ℕ) (l : ListState) → Any (IsLoadedAs section) l.area.entries → load_refusal section size l ≡ Some SameName
-refused_name section size l named = cond-true (is_some_entry (loaded_entry section l)) (Some SameName) (if (length l.area.entries == BOOK_LIMIT) || (l.last_id == LAST_ID) then Some BookFull else unless_room (least_start l.area size)) (named_found section l named)
+refused_name section size l named = cond-true (is_some (loaded_entry section l)) (Some SameName) (if (length l.area.entries == BOOK_LIMIT) || (l.last_id == LAST_ID) then Some BookFull else unless_room (least_start l.area size)) (named_found section l named)
 
 -- where no loaded entry has the section
 after_name : (section size : ℕ) (l : ListState) → All (λ e. ¬ IsLoadedAs section e) l.area.entries → load_refusal section size l ≡ (if (length l.area.entries == BOOK_LIMIT) || (l.last_id == LAST_ID) then Some BookFull else unless_room (least_start l.area size))
 after_name section size l none =
-    cond-false (is_some_entry (loaded_entry section l)) (Some SameName) (if (length l.area.entries == BOOK_LIMIT) || (l.last_id == LAST_ID) then Some BookFull else unless_room (least_start l.area size)) (ap is_some_entry (unnamed_found section l none))
+    cond-false (is_some (loaded_entry section l)) (Some SameName) (if (length l.area.entries == BOOK_LIMIT) || (l.last_id == LAST_ID) then Some BookFull else unless_room (least_start l.area size)) (ap is_some (unnamed_found section l none))
 
 pub refused_full : (section size : ℕ) (l : ListState) → All (λ e. ¬ IsLoadedAs section e) l.area.entries → IsFull l.area → load_refusal section size l ≡ Some BookFull
 refused_full section size l none full = after_name section size l none ∙ cond-true _ (Some BookFull) (unless_room (least_start l.area size)) (or_left _ _ (eq-eqb _ _ full))

@@ -1,5 +1,5 @@
 -- Why a module may be loaded: what the refusal's being none says, and what the least start is.
-use Rattle.std.proofs.Common.{◌≡◌, ◌≢◌, ℕ, ◌+◌, ◌<◌, ◌≤◌, ◌==◌, ◌||◌, nat_lt, nat_le, List, [], ◌∷◌, map, count_by, Option, Some, None, refl, arith, Bool, true, false, not, cond, leb-true, inl, inr, length, ◌⊎◌, if◌then◌else◌}
+use Rattle.std.proofs.Common.{◌≡◌, ◌≢◌, ℕ, ◌+◌, ◌<◌, ◌≤◌, ◌==◌, ◌||◌, nat_lt, nat_le, List, [], ◌∷◌, map, count_by, Option, Some, None, is_some, refl, arith, Bool, true, false, not, cond, leb-true, inl, inr, length, ◌⊎◌, if◌then◌else◌}
 use Rattle.std.specs.List.{list_any, range_with_len}
 use Rattle.std.proofs.lemmas.Bool.{and_parts, not-true, or_parts, and_cases, and_left, and_right, eqb-false, ltb-false, le-ltb, lt-leb, cond-false}
 use Rattle.std.proofs.lemmas.List.FromFn.{length-range_with_len, get_or-range_with_len}
@@ -13,7 +13,7 @@ use Rattle.module_area.specs.Entries.{meets}
 use Rattle.module_area.specs.Area.{is_free_at, least_start, Area}
 use Rattle.module_area.proofs.EntryLemmas.{find_some}
 use Rattle.core_list.specs.declared.list.TheConstants.{LAST_ID}
-use Rattle.core_list.specs.ListState.{ListState, record_of, load_refusal, loaded_entry, is_some_entry, unless_room}
+use Rattle.core_list.specs.ListState.{ListState, record_of, load_refusal, loaded_entry, unless_room}
 
 -- ---- nothing refuses the load
 
@@ -38,7 +38,7 @@ may_load section size l none = named (loaded_entry section l) refl none
     full unnamed false is none = room unnamed is (least_start l.area size) refl none
 
     named : (o : Option Entry) → loaded_entry section l ≡ o
-        → (if is_some_entry o then Some SameName else (if (length l.area.entries == BOOK_LIMIT) || (l.last_id == LAST_ID) then Some BookFull else unless_room (least_start l.area size))) ≡ None → MayLoad section size l
+        → (if is_some o then Some SameName else (if (length l.area.entries == BOOK_LIMIT) || (l.last_id == LAST_ID) then Some BookFull else unless_room (least_start l.area size))) ≡ None → MayLoad section size l
     named (Some e) is none = absurd (cc)
     named None is none = full is ((length l.area.entries == BOOK_LIMIT) || (l.last_id == LAST_ID)) refl none
 

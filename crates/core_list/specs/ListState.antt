@@ -1,5 +1,5 @@
 -- The module list of the core: the book, the last id given, and the sweep with its stops. Each change of it is one step of the step rules.
-use Rattle.std.specs.Prelude.{ℕ, ◌+◌, ◌*◌, ◌≤◌, ◌==◌, ◌||◌, Bool, true, false, if◌then◌else◌, Option, Some, None, List, [], ◌∷◌, ◌++◌, length, map, All}
+use Rattle.std.specs.Prelude.{ℕ, ◌+◌, ◌*◌, ◌≤◌, ◌==◌, ◌||◌, Bool, true, false, if◌then◌else◌, Option, Some, None, List, [], ◌∷◌, ◌++◌, is_some, length, map, All}
 use Rattle.std.specs.List.{find}
 use Rattle.tag_model.specs.declared.shape.Shape.{Shape}
 use Rattle.tag_model.specs.declared.state.Kind.TheVariants.{Bytes}
@@ -72,14 +72,10 @@ abbrev pub unless_room : Option ℕ → Option AreaError
 unless_room None = Some NoRoom
 unless_room (Some start) = None
 
-abbrev pub is_some_entry : Option Entry → Bool
-is_some_entry None = false
-is_some_entry (Some e) = true
-
 -- why a module of so many tags isn't loaded, in the order of the checks
 abbrev pub load_refusal : ℕ → ℕ → ListState → Option AreaError
 load_refusal section size l =
-    if is_some_entry (loaded_entry section l) then Some SameName
+    if is_some (loaded_entry section l) then Some SameName
     else (if (length l.area.entries == BOOK_LIMIT) || (l.last_id == LAST_ID) then Some BookFull
     else unless_room (least_start l.area size))
 
@@ -127,6 +123,15 @@ scanned_at k word l (sweep.Reading left r) =
 -- the sweep reads a word
 abbrev pub scanned : Shape → ℕ → ListState → ListState
 scanned k word l = scanned_at k word l l.sweep
+
+abbrev pub read_to_at : ℕ → ℕ → ListState → Sweep → ListState
+read_to_at cpu sum l sweep.None = l
+read_to_at cpu sum l (sweep.Done left) = l
+read_to_at cpu sum l (sweep.Reading left r) = record l { sweep = sweep.Reading left (record r { cpu = cpu; sum = sum }) }
+
+-- the sweep is at this CPU of the tag that it reads, and has this sum
+abbrev pub read_to : ℕ → ℕ → ListState → ListState
+read_to cpu sum l = read_to_at cpu sum l l.sweep
 
 abbrev pub released_at : ListState → Sweep → ListState
 released_at l sweep.None = l

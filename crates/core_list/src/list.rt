@@ -6,7 +6,7 @@ ghost use Rattle.tag_model.specs.Shape.{IsChecked};
 ghost use Rattle.module_area.specs.Entries.{entry_of};
 ghost use Rattle.module_area.specs.declared.book.TheConstants.{BOOK_LIMIT, TAG_LIMIT, USER_LIMIT};
 ghost use Rattle.module_area.specs.declared.entry.State.TheVariants as state;
-ghost use Rattle.core_list.specs.ListState.{IsList, dead_list, entered_list, found_at, fresh_list, left_ids, left_list, load_refusal, loaded, next_of, records_of, released, scanned, swept_list};
+ghost use Rattle.core_list.specs.ListState.{IsList, dead_list, entered_list, found_at, fresh_list, left_ids, left_list, load_refusal, loaded, next_of, read_to, records_of, released, scanned, swept_list};
 
 use module_area::book::{BOOK_LIMIT, TAG_LIMIT, USER_LIMIT};
 use module_area::{AreaError, Book};
@@ -150,6 +150,14 @@ impl CoreList {
         ensures found { result ≡ found_at shape word self.old.sweep }
     {
         self.list.scan(shape, word)
+    }
+
+    /// The sweep goes on in the tag that it reads, from this CPU on and with this sum. Who calls this has read the words
+    /// in between.
+    pub fn read_to(&mut self, cpu: u32, sum: u64)
+        ensures { self.new ≡ read_to cpu sum self.old }
+    {
+        self.list.read_to(cpu, sum);
     }
 
     /// Releases the first module on the list of a sweep that is done.

@@ -14,7 +14,7 @@ ghost use Rattle.tag_model.specs.WordState.{word_place};
 ghost use Rattle.module_area.specs.Entries.{entry_of};
 ghost use Rattle.module_area.specs.declared.entry.Entry.{Entry};
 ghost use Rattle.module_area.specs.declared.entry.State.TheVariants.{Loaded};
-ghost use Rattle.core_list.specs.ListState.{ListState, IsList, dead_list, entered_list, left_ids, left_list, list_part, load_refusal, loaded, most_steps, or_zero, least_start, records_of, released, run_of, scanned, sweep_steps, swept_list, tags_of};
+ghost use Rattle.core_list.specs.ListState.{ListState, IsList, dead_list, entered_list, left_ids, left_list, list_part, load_refusal, loaded, most_steps, or_zero, least_start, records_of, read_to, released, run_of, scanned, sum_read, found_at, sweep_steps, swept_list, tags_of};
 
 /// Each change of the list is a step of the step rules.
 pub fn changes_are_rows()
@@ -38,6 +38,12 @@ pub fn changes_keep_the_list()
     ensures swept { (l : ListState) → IsList l → IsList (swept_list l) }
     ensures scanned { (k : Shape) (word : ℕ) (l : ListState) → IsList l → IsTrue (sweep_fits k l.sweep (records_of l)) → IsList (scanned k word l) }
     ensures released { (l : ListState) → IsList l → IsList (released l) }
+{}
+
+/// A read of a word that isn't the last CPU's goes on to the next CPU, and takes no module off the list.
+pub fn reads_before_the_last_cpu()
+    ensures goes_on { (k : Shape) (word : ℕ) (l : ListState) (left : List ℕ) (r : Reader) → l.sweep ≡ sweep.Reading left r → r.cpu + 1 < k.cpus → scanned k word l ≡ read_to (r.cpu + 1) (sum_read r word) l }
+    ensures finds_nothing { (k : Shape) (word : ℕ) (left : List ℕ) (r : Reader) → r.cpu + 1 < k.cpus → found_at k word (sweep.Reading left r) ≡ None }
 {}
 
 /// Each step of a sweep leaves fewer, and a sweep that begins has at most two reads for each CPU and tag, and a release
