@@ -48,7 +48,7 @@ reads_in k l left r ok fits =
     let lies = entry_holds (λ e. LiesIn l.area e.start e.length) l.area.entries r.id one.entry ok.book.in_area one.is in
     record { cpu = reading.cpu; tag = omega (arith, in_range_means one.entry.start one.entry.length r.tag one.passes, lies.1) }
 
-reads_inside : (k : Shape) (l : ListState) (r : Reader) → IsList l → sweep_fits k l.sweep (records_of l) ≡ true → next_of l.sweep ≡ Read r → ReadsInside k l r
+pub reads_inside : (k : Shape) (l : ListState) (r : Reader) → IsList l → sweep_fits k l.sweep (records_of l) ≡ true → next_of l.sweep ≡ Read r → ReadsInside k l r
 reads_inside k l r ok fits next = go l.sweep fits next
   where
     go : (s : Sweep) → sweep_fits k s (records_of l) ≡ true → next_of s ≡ Read r → ReadsInside k l r

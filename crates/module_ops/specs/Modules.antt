@@ -1,6 +1,6 @@
 -- The modules of the machine: who is inside which, the module list, and what the manager does.
 use Rattle.std.specs.List.{AllByRecursion}
-use Rattle.std.specs.Prelude.{◌≡◌, ◌+◌, ◌*◌, ◌++◌, ◌<◌, ◌≤◌, IsTrue, IsSomeAnd, replicate, ℕ, ◌-◌, ◌==◌, Bool, true, false, if◌then◌else◌, Option, Some, None, List, [], ◌∷◌, length, slice_index, slice_index_or, slice_set}
+use Rattle.std.specs.Prelude.{◌≡◌, ◌+◌, ◌*◌, ◌++◌, ◌<◌, ◌≤◌, IsTrue, IsSomeAnd, replicate, ℕ, zero, suc, ◌-◌, ◌==◌, Bool, true, false, if◌then◌else◌, Option, Some, None, List, [], ◌∷◌, length, slice_index, slice_index_or, slice_set}
 use Rattle.std.specs.Option.{option_map}
 use Rattle.tag_model.specs.declared.shape.Shape.{Shape}
 use Rattle.tag_model.specs.declared.state.Run.{Run}
@@ -19,7 +19,7 @@ use Rattle.module_area.specs.declared.book.AreaError.TheVariants as area
 use Rattle.module_area.specs.Entries.{entry_of}
 use Rattle.core_list.specs.declared.list.Next.{Next}
 use Rattle.core_list.specs.declared.list.Next.TheVariants.{Nothing, Read, Release}
-use Rattle.core_list.specs.ListState.{ListState, records_of, fresh_list, run_of, loaded_entry, load_refusal, loaded, entered_list, left_list, dead_list, swept_list, scanned, found_at, released, next_of, section_in, start_in}
+use Rattle.core_list.specs.ListState.{ListState, records_of, fresh_list, run_of, loaded_entry, load_refusal, loaded, entered_list, left_list, dead_list, swept_list, scanned, found_at, released, next_of, section_in, start_in, sum_read}
 use Rattle.module_ops.specs.declared.op.ManagerOp.{ManagerOp}
 use Rattle.module_ops.specs.declared.op.ManagerOp.TheVariants.{Load, Unload, Clean}
 use Rattle.module_ops.specs.declared.event.Cause.{Cause}
@@ -184,6 +184,43 @@ words_read other = 0
 
 abbrev pub manager_reads : ModuleTable → ℕ
 manager_reads ms = if ms.manager.under_way then words_read (next_of ms.list.sweep) else 0
+
+-- ---- some steps of the manager at once
+
+-- the modules after so many steps of the manager
+abbrev pub managed_times : Shape → List Section → List (List ℕ) → ℕ → ModuleTable → ModuleTable
+managed_times k sections words zero ms = ms
+managed_times k sections words (suc n) ms = managed_times k sections words n (managed k sections words ms)
+
+-- none of so many steps of the manager is refused, and none tells anything
+abbrev pub TellNothing : Shape → List Section → List (List ℕ) → ℕ → ModuleTable → Type 0
+TellNothing k sections words zero ms = Unit {0}
+TellNothing k sections words (suc n) ms = (manager_refusal sections ms ≡ None) × (manager_event k words ms ≡ Stepped) × TellNothing k sections words n (managed k sections words ms)
+
+abbrev pub read_of : Next → Option Reader
+read_of (Read r) = Some r
+read_of other = None
+
+abbrev pub reads_in : List ManagerOp → Bool → Next → Option Reader
+reads_in [] under_way next = None
+reads_in (op ∷ ops) under_way next = if under_way then read_of next else None
+
+-- the word that the manager's next step reads, if it reads one
+abbrev pub reads_next : ModuleTable → Option Reader
+reads_next ms = reads_in ms.manager.ops ms.manager.under_way (next_of ms.list.sweep)
+
+abbrev pub ahead_of : Shape → Option Reader → ℕ
+ahead_of k None = 0
+ahead_of k (Some r) = k.cpus - 1 - r.cpu
+
+-- how many words the sweep has still to read of its tag before that of the last CPU
+abbrev pub words_ahead : Shape → ModuleTable → ℕ
+words_ahead k ms = ahead_of k (reads_next ms)
+
+-- the reader after so many reads, CPU by CPU
+abbrev pub read_over : List (List ℕ) → ℕ → Reader → Reader
+read_over words zero r = r
+read_over words (suc n) r = read_over words n (record r { cpu = r.cpu + 1; sum = sum_read r (word_read words r) })
 
 -- ---- what a step needs
 

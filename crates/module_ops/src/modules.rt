@@ -1,6 +1,6 @@
 //! The modules of the machine: who is inside which, the module list, and what the manager does.
 
-ghost use Rattle.std.specs.Prelude.{ℕ, ◌≡◌, ◌+◌, ◌*◌, ◌∷◌, List, ◌<◌, ◌≤◌, ◌↔◌, [], IsTrue, length, replicate, IfOk, OnOk, OnErr, MatchOption, false};
+ghost use Rattle.std.specs.Prelude.{ℕ, ◌≡◌, ◌+◌, ◌*◌, ◌∷◌, List, ◌<◌, ◌≤◌, ◌↔◌, [], IsTrue, length, min, replicate, IfOk, OnOk, OnErr, MatchOption, false};
 ghost use Rattle.tag_model.specs.Shape.{IsChecked};
 ghost use Rattle.tag_section.specs.Section.{Section};
 ghost use Rattle.module_area.specs.Entries.{entry_of};
@@ -8,7 +8,7 @@ ghost use Rattle.core_list.specs.ListState.{IsList, loaded_entry, load_refusal, 
 ghost use Rattle.cpu_ops.specs.declared.op.TheConstants.{MAX_QUEUED};
 ghost use Rattle.cpu_ops.specs.MayQueue.{section_len};
 ghost use Rattle.module_ops.specs.declared.op.ManagerOp.{ManagerOp};
-ghost use Rattle.module_ops.specs.Modules.{inside_at, scene_at, modules_after, manager_refusal, manager_first, unload_refused, begins_op, unloads, swept_on, sweep_goes, event_of_sweep, managed, manager_event, word_read, load_refused, cause_of, kept_by, ListFits, CanManage, IsManagerOp, fresh_modules, with_managed, words_at};
+ghost use Rattle.module_ops.specs.Modules.{inside_at, scene_at, modules_after, manager_refusal, manager_first, unload_refused, begins_op, unloads, swept_on, sweep_goes, event_of_sweep, managed, managed_times, manager_event, read_over, reads_next, words_ahead, TellNothing, word_in, word_read, load_refused, cause_of, kept_by, ListFits, CanManage, IsManagerOp, fresh_modules, with_managed, words_at};
 
 use crate::event::{Cause, Event};
 use crate::managing::Managing;
@@ -19,7 +19,7 @@ use module_area::{AreaError, Entry};
 use std::alloc::{AllocError, Global};
 use std::marker::Model;
 use tag_model::shape::Shape;
-use tag_model::state::{Reader, Run, Stop};
+use tag_model::state::{Kind, Reader, Run, Stop};
 use tag_section::Sections;
 
 /// The modules, by CPU and section, with their list and their manager.
@@ -60,13 +60,41 @@ fn run_on(entry: Entry) -> Run
     }
 }
 
+/// A CPU's word of a kind for a tag.
+fn word_in(words: &[CpuWords], cpu: u32, kind: Kind, tag: u32) -> u64
+    requires cpu { cpu < length words.now }
+    requires tag { 2 * tag + 1 < length (words_at words.now cpu) }
+    ensures { result ≡ word_in words.now cpu kind tag }
+{
+    words[cpu as usize].read(kind, tag)
+}
+
 /// The word that a sweep reads next.
 fn word_read(words: &[CpuWords], reader: Reader) -> u64
     requires cpu { reader.cpu < length words.now }
     requires tag { 2 * reader.tag + 1 < length (words_at words.now reader.cpu) }
     ensures { result ≡ word_read words.now reader }
 {
-    words[reader.cpu as usize].read(reader.pass, reader.tag)
+    word_in(words, reader.cpu, reader.pass, reader.tag)
+}
+
+/// The reader after so many reads, CPU by CPU.
+fn read_over(words: &[CpuWords], reader: Reader, count: u32) -> Reader
+    requires cpus { reader.cpu + count ≤ length words.now }
+    requires few { length words.now ≤ 64 }
+    requires tags { (cpu : ℕ) → cpu < length words.now → 2 * reader.tag + 1 < length (words_at words.now cpu) }
+    ensures { result ≡ read_over words.now count reader }
+{
+    let end = reader.cpu + count;
+    let mut sum = reader.sum;
+    for cpu in reader.cpu..end {
+        sum = sum.wrapping_add(word_in(words, cpu, reader.pass, reader.tag));
+    }
+    Reader {
+        cpu: end,
+        sum,
+        ..reader
+    }
 }
 
 /// Why a load is refused.
@@ -282,6 +310,35 @@ impl ModuleTable {
         let event = self.sweep_on(shape, words, by);
         self.end_or_hold();
         event
+    }
+
+    /// The sweep reads on in its tag: at most so many words, and not that of the last CPU. The answer is how many it
+    /// read. Each is a step of the manager, which isn't refused and tells nothing.
+    pub fn read_on(&mut self, shape: Shape, words: &[CpuWords], most: u32) -> u32
+        requires { (sections : List Section) × CanManage shape sections words.now self.old }
+        ensures count { result ≡ min most (words_ahead shape self.old) }
+        ensures after { (sections : List Section) → self.new ≡ managed_times shape sections words.now result self.old }
+        ensures quiet { (sections : List Section) → TellNothing shape sections words.now result self.old }
+    {
+        let Some(reader) = self.reads_next() else {
+            return 0;
+        };
+        let count = most.min(shape.cpus - 1 - reader.cpu);
+        let next = read_over(words, reader, count);
+        self.list.read_to(next.cpu, next.sum);
+        count
+    }
+
+    /// The word that the manager's next step reads, if it reads one.
+    fn reads_next(&self) -> Option<Reader>
+        ensures value { result ≡ reads_next self.now }
+        ensures holds { IsList self.now.list }
+    {
+        let next = self.list().next();
+        match (self.manager.first(), self.manager.is_under_way(), next) {
+            (Some(_op), true, Next::Read(reader)) => Some(reader),
+            _ => None,
+        }
     }
 
     /// The sweep reads a word, or releases a module.
