@@ -207,6 +207,7 @@ modules_fresh k sections checked = record {
   ops = tt;
   some_op = λ on. cc;
   goes_on = λ on. cc;
+  at_rest = λ off. refl;
 }
 
 pub core_fresh : (k : Shape) (sections : List Section) (m : Machine) (words : List (List ℕ)) (ms : ModuleTable) → IsChecked k → SectionsFitShape k sections

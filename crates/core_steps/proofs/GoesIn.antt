@@ -14,7 +14,7 @@ use Rattle.tag_model.proofs.Steps.{safe-steps_with}
 use Rattle.module_area.specs.declared.entry.Entry.{Entry}
 use Rattle.module_area.specs.Area.{LiesIn}
 use Rattle.module_area.specs.Entries.{entered, left as one_left}
-use Rattle.core_list.specs.ListState.{ListState, IsList, is_some_entry, entered_list, left_list, list_part, loaded_entry, run_of, with_changed}
+use Rattle.core_list.specs.ListState.{ListState, IsList, entered_list, left_list, list_part, loaded_entry, run_of, with_changed}
 use Rattle.core_list.proofs.Changes.{enters_run, leaves_run, row-enters, row-leaves}
 use Rattle.core_list.proofs.Kept.{list_entered, list_left}
 use Rattle.tag_section.specs.Section.{Section}
@@ -43,12 +43,12 @@ may_enter ms cpu section none = free ms.manager.under_way none
     slot e is (Some r) outside none = absurd (cc)
 
     named : (o : Option Entry) → loaded_entry section ms.list ≡ o
-        → (if not (is_some_entry o) then Some (NotLoaded section) else (if is_some (run_at (inside_at ms cpu) section) then Some (Inside section) else None)) ≡ None → MayEnter ms cpu section
+        → (if not (is_some o) then Some (NotLoaded section) else (if is_some (run_at (inside_at ms cpu) section) then Some (Inside section) else None)) ≡ None → MayEnter ms cpu section
     named None is none = absurd (cc)
     named (Some e) is none = slot e is (run_at (inside_at ms cpu) section) refl none
 
     free : (held : Bool)
-        → (if held then Some ListHeld else (if not (is_some_entry (loaded_entry section ms.list)) then Some (NotLoaded section) else (if is_some (run_at (inside_at ms cpu) section) then Some (Inside section) else None))) ≡ None
+        → (if held then Some ListHeld else (if not (is_some (loaded_entry section ms.list)) then Some (NotLoaded section) else (if is_some (run_at (inside_at ms cpu) section) then Some (Inside section) else None))) ≡ None
         → MayEnter ms cpu section
     free true none = absurd (cc)
     free false none = named (loaded_entry section ms.list) refl none
@@ -227,6 +227,7 @@ modules_with k sections ms ok cpu below section within o fits id change keeps li
   ops = ok.ops;
   some_op = ok.some_op;
   goes_on = ok.goes_on;
+  at_rest = ok.at_rest;
 }
   where
     list : ListState

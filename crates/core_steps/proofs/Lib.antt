@@ -27,3 +27,4 @@ pub mod ManagerRelease
 pub mod ManagerTold
 pub mod SweepBounds
 pub mod Others
+pub mod ReadOn

@@ -1,25 +1,23 @@
 -- What a core tells of its module list, and the kinds of the manager's step.
 use Rattle.std.proofs.Common.{◌≡◌, ℕ, ◌+◌, ◌==◌, List, [], ◌∷◌, refl, sym, subst, Bool, true, false, cond, Option, Some, None, eqb-true}
 use Rattle.std.specs.List.{AllByRecursion}
-use Rattle.std.proofs.lemmas.Bool.{and_parts}
 use Rattle.std.specs.Option.{option_map}
 use Rattle.tag_model.specs.declared.shape.Shape.{Shape}
 use Rattle.tag_model.specs.declared.state.Part.TheVariants.{Modules, NextId}
 use Rattle.tag_model.specs.declared.state.Reader.{Reader}
-use Rattle.tag_model.specs.declared.state.Record.{Record}
 use Rattle.tag_model.specs.declared.state.Run.{Run}
 use Rattle.tag_model.specs.declared.state.Sweep.{Sweep}
 use Rattle.tag_model.specs.declared.state.Sweep.TheVariants as sweep
-use Rattle.tag_model.specs.Laws.{Safe, are_dead, rises_from, sweep_fits}
+use Rattle.tag_model.specs.Laws.{Safe, are_dead, sweep_fits}
 use Rattle.tag_model.specs.StepRules.{Becomes}
 use Rattle.tag_model.proofs.BookRows.{safe-reads}
 use Rattle.tag_model.proofs.ListRows.{list_alone}
-use Rattle.tag_model.proofs.ScanRow.{reading_fits}
 use Rattle.tag_model.proofs.Told.{sweep_in_bounds}
 use Rattle.tag_section.specs.Section.{Section}
 use Rattle.module_area.specs.declared.book.AreaError.{AreaError}
 use Rattle.module_area.specs.declared.entry.Entry.{Entry}
 use Rattle.core_list.specs.ListState.{ListState, left_ids, list_part, records_of, dead_list, load_refusal, loaded, loaded_entry, next_of, released, scanned, swept_list}
+use Rattle.core_list.proofs.Fits.{left_dead}
 use Rattle.cpu_ops.specs.Machine.{Machine}
 use Rattle.core_steps.specs.CoreState.{CoreState, IsCore, cpu_parts, place_parts, state_with}
 use Rattle.module_ops.specs.Modules.{CanManage, IsManagerOp}
@@ -52,17 +50,12 @@ safe_unread k reads m words runs list safe = state_counted k reads 0 m words run
 
 -- ---- what a core's sweep is like
 
-dead_of_sweep : (k : Shape) (s : Sweep) (records : List Record) → sweep_fits k s records ≡ true → are_dead (left_ids s) records ≡ true
-dead_of_sweep k sweep.None records fits = refl
-dead_of_sweep k (sweep.Reading left r) records fits = (reading_fits k left r records fits).dead
-dead_of_sweep k (sweep.Done left) records fits = (and_parts (rises_from 0 left) (are_dead left records) fits).1
-
 pub sweep_told : (s : CoreState) → IsCore s → (sweep_fits s.shape s.modules.list.sweep (records_of s.modules.list) ≡ true) × (are_dead (left_ids s.modules.list.sweep) (records_of s.modules.list) ≡ true)
 sweep_told s core =
     let l = s.modules.list in
     let part = list_part 0 [] l in
     let fits = (sweep_in_bounds s.shape part (Modules part ∷ []) (Modules part ∷ []) _ _ (list_alone part) (list_becomes 0 0 s.machine s.words _ l l refl) core.safe).0 in
-    (fits, dead_of_sweep s.shape l.sweep (records_of l) fits)
+    (fits, left_dead s.shape l.sweep (records_of l) fits)
 
 -- what the manager's next step reads is there
 pub can_manage : (s : CoreState) → IsCore s → CanManage s.shape s.sections s.words s.modules

@@ -71,13 +71,14 @@ record ManagesOn (sections : List Section) (list : ListState) (m : Managing) : T
   ops : AllByRecursion (IsManagerOp sections) m.ops
   some_op : m.under_way ≡ true → m.ops ≢ []
   goes_on : m.under_way ≡ true → is_nothing (next_of list.sweep) ≡ false
+  at_rest : m.under_way ≡ false → is_nothing (next_of list.sweep) ≡ true
 
 manages_on : (sections : List Section) (op : ManagerOp) (ops : List ManagerOp) (list : ListState) → AllByRecursion (IsManagerOp sections) (op ∷ ops) → ManagesOn sections list (managed_on op ops list)
 manages_on sections op ops list are = go (is_nothing (next_of list.sweep)) refl
   where
     go : (b : Bool) → is_nothing (next_of list.sweep) ≡ b → ManagesOn sections list (cond {A = Managing} b (record { ops = ops; under_way = false }) (record { ops = op ∷ ops; under_way = true }))
-    go true is = record { ops = are.1; some_op = λ e. absurd (cc); goes_on = λ e. absurd (cc) }
-    go false is = record { ops = are; some_op = λ e none. absurd (cc); goes_on = λ e. is }
+    go true is = record { ops = are.1; some_op = λ e. absurd (cc); goes_on = λ e. absurd (cc); at_rest = λ e. is }
+    go false is = record { ops = are; some_op = λ e none. absurd (cc); goes_on = λ e. is; at_rest = λ e. absurd (cc) }
 
 modules_with : (k : Shape) (sections : List Section) (ms : ModuleTable) (list : ListState) (m : Managing) → AreModules k sections ms → KeepsList sections ms.list list → ManagesOn sections list m → AreModules k sections (record ms { list = list; manager = m })
 modules_with k sections ms list m are keeps on = record {
@@ -91,6 +92,7 @@ modules_with k sections ms list m are keeps on = record {
   ops = on.ops;
   some_op = on.some_op;
   goes_on = on.goes_on;
+  at_rest = on.at_rest;
 }
 
 modules_after : (s : CoreState) → IsCore s → (op : ManagerOp) (ops : List ManagerOp) (n : ℕ) (after : ModuleTable) → AllByRecursion (IsManagerOp s.sections) (op ∷ ops) → Manages s.shape s.sections s.words s.modules op ops n after → AreModules s.shape s.sections after
@@ -100,7 +102,7 @@ modules_after s core op ops n after are (Manages.loads section starts is none) =
     let of_new : EntryFits s.sections (new_entry section size l) = record { of_module = is; all_tags = refl } in
     modules_with s.shape s.sections s.modules (loaded section size l) (record { ops = ops; under_way = false }) core.modules
     (record { list = list_loaded l section size core.modules.list (core.sections.some_tag section is.has_section) none; first = refl; tags = refl; entries = All-push (EntryFits s.sections) l.area.entries (new_entry section size l) core.modules.entries of_new })
-    (record { ops = are.1; some_op = λ e. absurd (cc); goes_on = λ e. absurd (cc) })
+    (record { ops = are.1; some_op = λ e. absurd (cc); goes_on = λ e. absurd (cc); at_rest = λ e. core.modules.at_rest starts })
 modules_after s core op ops n after are (Manages.marks_dead section e starts is unused) =
     modules_with s.shape s.sections s.modules _ _ core.modules (keeps_dead s.sections s.modules.list e.id core.modules.list core.modules.entries) (manages_on s.sections op ops _ are)
 modules_after s core op ops n after are (Manages.sweeps starts) =
@@ -154,6 +156,7 @@ manager_queued s op core is = record {
     ops = all_push (IsManagerOp s.sections) s.modules.manager.ops op core.modules.ops is;
     some_op = λ on. push_some s.modules.manager.ops op;
     goes_on = core.modules.goes_on;
+    at_rest = core.modules.at_rest;
   };
   safe = core.safe;
 }

@@ -28,6 +28,7 @@ use Rattle.module_area.specs.Area.{Area, IsBook}
 use Rattle.module_area.specs.Entries.{entry_of, is_loaded_at, is_loaded_as as is_loaded_section}
 use Rattle.module_area.proofs.EntryLemmas.{find_some}
 use Rattle.core_list.specs.ListState.{ListState, is_dead, list_part, loaded_entry, record_of, records_of, run_of}
+use Rattle.core_list.proofs.Refused.{state_means}
 use Rattle.core_list.proofs.Split.{the_entry, book_apart, book_entry_at, records_at}
 use Rattle.cpu_ops.specs.Machine.{Machine, hand_at, run_at}
 use Rattle.module_ops.specs.Modules.{inside_at}
@@ -132,10 +133,6 @@ entry_by_place (x ∷ xs) (suc k) e rising h is =
     let above : x.id < e.id = subst (λ (y : Entry). x.id < y.id) is (rising 0 (suc k) e (omega arith) (omega arith)) in
     cond-false (x.id == e.id) (Some x) (entry_of xs e.id) (ne_eqb x.id e.id (λ same. omega (arith, above))) ∙ later
 
-loaded_means : (state : State) (other section : ℕ) → is_loaded_at state other section ≡ true → (state ≡ Loaded) × (other ≡ section)
-loaded_means Loaded other section e = (refl, eqb-true other section e)
-loaded_means Dead other section e = absurd (false≢true e)
-
 -- it stands among the entries, is the one of its id, is loaded, and is of the section
 pub record LoadedEntry (section : ℕ) (entries : List Entry) (e : Entry) : Type 0 where
   pub there : Contains entries e
@@ -146,7 +143,7 @@ pub record LoadedEntry (section : ℕ) (entries : List Entry) (e : Entry) : Type
 pub loaded_is : (section : ℕ) (list : ListState) (e : Entry) → IsBook list.area → loaded_entry section list ≡ Some e → LoadedEntry section list.area.entries e
 loaded_is section list e book is =
     let f = find_some (is_loaded_section section) list.area.entries e is in
-    let means = loaded_means e.state e.section section f.1 in
+    let means = state_means e.state e.section section f.1 in
     record { there = f.0; by_id = entry_by_place list.area.entries f.0.0 e book.rising f.0.1 f.0.2; loaded = means.0; of_section = means.1 }
 
 -- ---- the users of a module are the runs on it

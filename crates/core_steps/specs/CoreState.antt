@@ -316,6 +316,8 @@ pub record AreModules (k : Shape) (sections : List Section) (ms : ModuleTable) :
   -- an op that is under way is there, and has something left to read or to release
   pub some_op : ms.manager.under_way ≡ true → ms.manager.ops ≢ []
   pub goes_on : ms.manager.under_way ≡ true → is_nothing (next_of ms.list.sweep) ≡ false
+  -- where none is, there is nothing to read and nothing to release
+  pub at_rest : ms.manager.under_way ≡ false → is_nothing (next_of ms.list.sweep) ≡ true
 
 -- there is the kernel's section, which fits, and each section has a tag
 pub record SectionsFitShape (k : Shape) (sections : List Section) : Type 0 where

@@ -4,3 +4,4 @@ pub mod StepsLeft
 pub mod Laws
 pub mod Release
 pub mod Told
+pub mod ReadOn

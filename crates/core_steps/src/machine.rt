@@ -1,13 +1,13 @@
 //! The core: every CPU's words, hand and ops, every place, and the modules, on plain vectors.
 
-ghost use Rattle.std.specs.Prelude.{All, [], ◌≡◌, ℕ, ◌*◌, ◌+◌, ◌<◌, ◌≤◌, ◌↔◌, length, replicate, MatchOption, IfOk, OnOk, OnErr, Some, None, List, IsTrue};
+ghost use Rattle.std.specs.Prelude.{All, [], ◌≡◌, ℕ, ◌*◌, ◌+◌, ◌<◌, ◌≤◌, ◌↔◌, length, min, replicate, MatchOption, IfOk, OnOk, OnErr, Some, None, List, IsTrue};
 ghost use Rattle.tag_model.specs.Shape.{IsChecked};
 ghost use Rattle.tag_model.specs.StepRules.{StepsWith};
 ghost use Rattle.tag_model.specs.Laws.{Safe};
 ghost use Rattle.cpu_ops.specs.declared.op.TheConstants.{MAX_QUEUED};
 ghost use Rattle.cpu_ops.specs.Machine.{waiting_at, queued_on};
 ghost use Rattle.cpu_ops.specs.MayQueue.{IsOp};
-ghost use Rattle.module_ops.specs.Modules.{IsManagerOp, with_managed, words_at};
+ghost use Rattle.module_ops.specs.Modules.{IsManagerOp, with_managed, words_ahead, words_at};
 ghost use Rattle.core_steps.specs.CoreState.{total_of};
 
 use crate::op::{Actor, Event, MAX_QUEUED, Op, QueueError, StepRefused};
@@ -67,6 +67,7 @@ impl Core {
     ghost use Rattle.core_steps.specs.CoreState.{CoreState, IsCore, IsActor, IsOpOf, EntryFits, SectionsFitShape, fresh, queued, ops_of, refused, stepped, event_of, reads_of, state_after, word_state, word_at};
     ghost use Rattle.cpu_ops.specs.MayQueue.{IsOp};
     ghost use Rattle.module_ops.specs.Modules.{IsManagerOp};
+    ghost use Rattle.core_steps.specs.ReadOn.{TellsNothing, after_manager};
     ghost use Rattle.core_steps.specs.Release.{IfReleases};
     ghost use Rattle.core_steps.specs.Told.{EventFits};
     ghost use Rattle.core_steps.specs.StepsLeft.{steps_left, cpu_steps_left, manager_steps_left};
@@ -184,6 +185,31 @@ impl Core {
             Actor::Cpu(cpu) => self.go_cpu(cpu),
             Actor::Manager => self.go_manager(),
         }
+    }
+
+    /// The sweep of the manager reads on in its tag: so many words at most, and not that of the last CPU. The answer is
+    /// how many steps of the manager that is. None of them is refused, and none tells anything.
+    pub fn read_on(&mut self, most: u32) -> u32
+        ensures count { result ≡ min most (words_ahead self.old.shape self.old.modules) }
+        ensures state { self.new ≡ after_manager self.old result }
+        ensures quiet { TellsNothing result self.old }
+        ensures left { steps_left self.new Actor.Manager + result ≤ steps_left self.old Actor.Manager }
+        ensures safe { Safe self.new.shape (word_state self.new) }
+    {
+        let count = self.read_words(most);
+        self.tell();
+        count
+    }
+
+    fn read_words(&mut self, most: u32) -> u32
+        ensures count { result ≡ min most (words_ahead self.old.shape self.old.modules) }
+        ensures state { self.new ≡ after_manager self.old result }
+        ensures quiet { TellsNothing result self.old }
+        ensures left { steps_left self.new Actor.Manager + result ≤ steps_left self.old Actor.Manager }
+    {
+        self.tell();
+        self.modules
+            .read_on(self.shape, self.words.as_slice(), most)
     }
 
     fn go_cpu(&mut self, cpu: u32) -> Result<Event, StepRefused>
