@@ -3,3 +3,4 @@ pub mod Totals
 pub mod Lines
 pub mod Numbers
 pub mod ReachedLemmas
+pub mod ReadOn

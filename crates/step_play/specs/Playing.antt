@@ -1,5 +1,5 @@
 -- What a core that plays a schedule has of its meaning.
-use Rattle.std.specs.Prelude.{◌≡◌, ℕ, ◌<◌, Result, Ok, Err, List, length, ⊤}
+use Rattle.std.specs.Prelude.{◌≡◌, ℕ, ◌+◌, ◌<◌, Result, Ok, Err, List, length, ⊤}
 use Rattle.cpu_ops.specs.MayQueue.{section_len}
 use Rattle.core_steps.specs.CoreState.{CoreState, IsActor, IsOpOf}
 use Rattle.input_form.specs.declared.code.Code.{Code}
@@ -14,7 +14,8 @@ use Rattle.step_play.specs.declared.acts.ActError.TheVariants as error
 use Rattle.step_play.specs.declared.schedule.End.{End}
 use Rattle.step_play.specs.declared.schedule.End.TheVariants as end
 use Rattle.step_play.specs.Printed.{Setting}
-use Rattle.step_play.specs.Schedule.{Played, core_played, setting}
+use Rattle.core_steps.specs.declared.op.Actor.{Actor}
+use Rattle.step_play.specs.Schedule.{Played, all_taken, core_played, setting, steps_taken}
 
 -- the core and the text are those of what was played
 pub record Shows (s : Setting) (now : CoreState) (written : List ℕ) (p : Played) : Type 0 where
@@ -32,6 +33,14 @@ Follows s (Err (error.Memory want)) core text meant = ⊤
 pub record SameSizes (old new : CoreState) : Type 0 where
   pub shape : new.shape ≡ old.shape
   pub sections : new.sections ≡ old.sections
+
+-- So many steps of the actor lead from what was played to what the core shows, and whatever takes so many more goes on
+-- from there.
+pub record StepsOn (s : Setting) (who : Actor) (n : ℕ) (now : CoreState) (text : List ℕ) (p : Played) : Type 0 where
+  pub played : Played
+  pub shows : Shows s now text played
+  pub steps : (more : ℕ) → steps_taken s who (n + more) p ≡ steps_taken s who more played
+  pub all : (more : ℕ) → all_taken s who (n + more) p ≡ all_taken s who more played
 
 -- a core's own setting
 abbrev pub own_setting : CoreState → Setting

@@ -8,7 +8,7 @@ ghost use Rattle.core_list.specs.ListState.{loaded_entry};
 ghost use Rattle.input_form.specs.Judging.{at};
 ghost use Rattle.step_play.specs.Printed.{Setting};
 ghost use Rattle.step_play.specs.Schedule.{Played, one_step, steps_taken, steps_on, queues_on, act_on, play, module_number, words_of, number_of};
-ghost use Rattle.step_play.specs.Playing.{Shows, Follows, SameSizes, IsAct, IsLine, own_setting, Plays};
+ghost use Rattle.step_play.specs.Playing.{Shows, Follows, SameSizes, StepsOn, IsAct, IsLine, own_setting, Plays};
 
 use crate::acts::{ActError, actor_of, code_of, op_of};
 use crate::print::{write_allocinfo, write_event, write_words};
@@ -46,15 +46,31 @@ fn play_step(core: &mut Core, actor: Actor, out: &mut Vec<u8>) -> Result<(), Act
     }
 }
 
+/// Takes steps that read for a sweep and tell nothing: so many at most. The answer is how many.
+fn play_reads(core: &mut Core, actor: Actor, most: u32) -> u32
+    ensures within { result ≤ most }
+    ensures meaning { (text : List ℕ) (p : Played) → Shows (own_setting core.old) core.old text p → StepsOn (own_setting core.old) actor result core.new text p }
+    ensures left { steps_left core.new actor + result ≤ steps_left core.old actor }
+    ensures sizes { SameSizes core.old core.new }
+{
+    match actor {
+        Actor::Cpu(_cpu) => 0,
+        Actor::Manager => core.read_on(most),
+    }
+}
+
 /// Takes so many steps, up to the first that is refused.
 fn play_steps(core: &mut Core, actor: Actor, count: u32, out: &mut Vec<u8>) -> Result<(), ActError>
     ensures meaning { (p : Played) → Shows (own_setting core.old) core.old out.old.items p → Follows (own_setting core.old) result core.new out.new.items (steps_taken (own_setting core.old) actor count p) }
     ensures sizes { SameSizes core.old core.new }
 {
-    for _step in 0..count {
+    let mut left = count;
+    while left > 0 {
+        left -= play_reads(core, actor, left - 1);
         if let Err(error) = play_step(core, actor, out) {
             return Err(error);
         }
+        left -= 1;
     }
     Ok(())
 }
@@ -64,10 +80,12 @@ fn play_all(core: &mut Core, actor: Actor, out: &mut Vec<u8>) -> Result<(), ActE
     ensures meaning { (p : Played) → Shows (own_setting core.old) core.old out.old.items p → Follows (own_setting core.old) result core.new out.new.items (steps_on (own_setting core.old) actor None p) }
     ensures sizes { SameSizes core.old core.new }
 {
+    play_reads(core, actor, u32::MAX);
     while !core.idle(actor) {
         if let Err(error) = play_step(core, actor, out) {
             return Err(error);
         }
+        play_reads(core, actor, u32::MAX);
     }
     Ok(())
 }
