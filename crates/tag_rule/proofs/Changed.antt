@@ -2,7 +2,7 @@
 use Rattle.std.proofs.Common.{◌≡◌, ℕ, ◌≤◌, ◌==◌, ◌&&◌, not, nat_lt, List, [], ◌∷◌, ◌++◌, Bool, true, false, map, Option, Some, refl, sym, ap, subst, ◌∙◌, arith, eqb-true, eq-eqb, ne_eqb}
 use Rattle.std.specs.List.{list_any}
 use Rattle.std.specs.Option.{IsSome}
-use Rattle.std.proofs.lemmas.Bool.{and_parts, and_from, false≢true}
+use Rattle.std.proofs.lemmas.Bool.{and_parts, and_from, false≢true, or_left}
 use Rattle.std.specs.Arc.{arc_value}
 use Rattle.atomic_table.specs.Table.{Me}
 use Rattle.atomic_table.specs.declared.shared.Seat.{Seat}
@@ -23,7 +23,7 @@ use Rattle.tag_model.proofs.Found.{found_any, any_at}
 use Rattle.tag_model.proofs.Ids.{rises_cons}
 use Rattle.tag_model.proofs.ReleaseRow.{safe-releases}
 use Rattle.tag_model.proofs.Swept.{loaded_as_means}
-use Rattle.module_list.specs.Listing.{Listing, bare, bare_record, entered, left, list_part, listing_of, may_release, record_in}
+use Rattle.module_list.specs.Listing.{Listing, bare, bare_record, entered, left, list_part, listing_of, may_release, record_in, releasable}
 use Rattle.module_list.proofs.At.{record_at}
 use Rattle.module_list.proofs.Bare.{bare_entered, bare_left, bare_marked_dead, bare_released, bare_swept}
 use Rattle.module_list.proofs.Changes.{enters_entry, leaves_entry, marks_id, row-enters, row-leaves, row-marks_dead, row-releases}
@@ -82,42 +82,58 @@ is_done id sweep.None e = absurd (false≢true e)
 is_done id (sweep.Reading ids r) e = absurd (false≢true e)
 is_done id (sweep.Done ids) e = record { ids = ids; is = refl; has = e }
 
+-- the first id that a sweep may release
+pub may_release_first : (s : Sweep) (id : ℕ) → releasable s ≡ Some id → may_release id s ≡ true
+may_release_first sweep.None id e = absurd (cc)
+may_release_first (sweep.Reading ids r) id e = absurd (cc)
+may_release_first (sweep.Done []) id e = absurd (cc)
+may_release_first (sweep.Done (x ∷ ids)) id e = let same : x ≡ id = cc in or_left (x == id) (is_listed ids id) (eq-eqb x id same)
+
 -- a run on its way is that on its record
 run_is : (run : Run) (r : Record) → is_loaded_as run r ≡ true → run ≡ run_on r
 run_is run r e = let m = loaded_as_means run r e in λ i. record { id = sym m.id i; section = sym m.section i; start = sym m.start i; length = sym m.length i }
 
 -- ---- the rows
 
-pub is_change : (k : Shape) (c : Change) (l : ListPart) → ListHolds k l → may_change c l ≡ true → IsChange c l (changed c l)
-is_change k (change.Enter id) l holds may =
-    let o = one_record id 0 (λ (r : Record). not r.dead) l.records holds.rises may in
-    let alive : o.entry.dead ≡ false = alive_if o.entry.dead o.passes in
-    subst (λ (x : Option Record). (row : Enters l (list_part l.reads (with_run x l.away) (entered id (listing_of l)))) × (row.entry.id ≡ id)) (sym o.there) (
-      row-enters (listing_of l) l.reads id o.entry l.away holds.rises o.there alive,
-      ap (λ (r : Record). r.id) (enters_entry (listing_of l) l.reads id o.entry l.away holds.rises o.there alive) ∙ (record_at l.records id o.entry holds.rises o.there).same_id,
+enters : (l : ListPart) (id : ℕ) (r : Record) → rises_from 0 (ids_of l.records) ≡ true → record_in id l.records ≡ Some r → r.dead ≡ false → IsChange (change.Enter id) l (changed (change.Enter id) l)
+enters l id r rises there alive =
+    subst (λ (x : Option Record). (row : Enters l (list_part l.reads (with_run x l.away) (entered id (listing_of l)))) × (row.entry.id ≡ id)) (sym there) (
+      row-enters (listing_of l) l.reads id r l.away rises there alive,
+      ap (λ (x : Record). x.id) (enters_entry (listing_of l) l.reads id r l.away rises there alive) ∙ (record_at l.records id r rises there).same_id,
     )
+
+leaves : (l : ListPart) (id : ℕ) (r : Record) (ahead behind : List Run) → rises_from 0 (ids_of l.records) ≡ true → record_in id l.records ≡ Some r → l.away ≡ ahead ++ run_on r ∷ behind → without_run id l.away ≡ ahead ++ behind
+    → IsChange (change.Leave id) l (changed (change.Leave id) l)
+leaves l id r ahead behind rises there was without =
+    subst (λ (x : List Run). (row : Leaves (list_part l.reads x (listing_of l)) (list_part l.reads (without_run id l.away) (left id (listing_of l)))) × (row.entry.id ≡ id)) (sym was)
+    (subst (λ (x : List Run). (row : Leaves (list_part l.reads (ahead ++ run_on r ∷ behind) (listing_of l)) (list_part l.reads x (left id (listing_of l)))) × (row.entry.id ≡ id)) (sym without) (
+      row-leaves (listing_of l) l.reads id r ahead behind rises there,
+      ap (λ (x : Record). x.id) (leaves_entry (listing_of l) l.reads id r ahead behind rises there) ∙ (record_at l.records id r rises there).same_id,
+    ))
+
+marks : (l : ListPart) (id : ℕ) (r : Record) → rises_from 0 (ids_of l.records) ≡ true → record_in id l.records ≡ Some r → not r.dead && (r.users == 0) ≡ true → IsChange (change.Dead id) l (changed (change.Dead id) l)
+marks l id r rises there passes =
+    let both = and_parts (not r.dead) (r.users == 0) passes in
+    let alive : r.dead ≡ false = alive_if r.dead both.0 in
+    let unused : r.users ≡ 0 = eqb-true r.users 0 both.1 in
+    (row-marks_dead (listing_of l) l.reads id r l.away rises there alive unused, marks_id (listing_of l) l.reads id r l.away rises there alive unused)
+
+-- the record of a run that leaves
+leaving : (l : ListPart) (id : ℕ) (run : Run) → run.id ≡ id → list_any (λ (r : Record). is_loaded_as run r && nat_lt 0 r.users) l.records ≡ true → list_any (λ (r : Record). (r.id == id) && is_loaded_as run r) l.records ≡ true
+leaving l id run on_id loaded =
+    let g = found_any (λ (r : Record). is_loaded_as run r && nat_lt 0 r.users) l.records loaded in
+    let like = (and_parts (is_loaded_as run g.item) (nat_lt 0 g.item.users) g.passes).0 in
+    let same : g.item.id ≡ id = (loaded_as_means run g.item like).id ∙ on_id in
+    subst (λ (rs : List Record). list_any (λ (r : Record). (r.id == id) && is_loaded_as run r) rs ≡ true) (sym g.is)
+    (any_at (λ (r : Record). (r.id == id) && is_loaded_as run r) g.front g.item g.back (and_from (g.item.id == id) (is_loaded_as run g.item) (eq-eqb g.item.id id same) like))
+
+pub is_change : (k : Shape) (c : Change) (l : ListPart) → ListHolds k l → may_change c l ≡ true → IsChange c l (changed c l)
+is_change k (change.Enter id) l holds may = let o = one_record id 0 (λ (r : Record). not r.dead) l.records holds.rises may in enters l id o.entry holds.rises o.there (alive_if o.entry.dead o.passes)
 is_change k (change.Leave id) l holds may =
     let f = first_run id l.away may in
-    let g = found_any (λ (r : Record). is_loaded_as f.run r && nat_lt 0 r.users) l.records (holds.away f.ahead f.run f.behind f.is) in
-    let like = (and_parts (is_loaded_as f.run g.item) (nat_lt 0 g.item.users) g.passes).0 in
-    let on_id : g.item.id ≡ id = (loaded_as_means f.run g.item like).id ∙ f.on_id in
-    let there : list_any (λ (r : Record). (r.id == id) && is_loaded_as f.run r) l.records ≡ true =
-    subst (λ (rs : List Record). list_any (λ (r : Record). (r.id == id) && is_loaded_as f.run r) rs ≡ true) (sym g.is) (any_at (λ (r : Record). (r.id == id) && is_loaded_as f.run r) g.front g.item g.back (and_from _ _ (eq-eqb g.item.id id on_id) like)) in
-    let o = one_record id 0 (is_loaded_as f.run) l.records holds.rises there in
-    let was : l.away ≡ f.ahead ++ run_on o.entry ∷ f.behind = f.is ∙ ap (λ (x : Run). f.ahead ++ x ∷ f.behind) (run_is f.run o.entry o.passes) in
-    subst (λ (x : List Run). (row : Leaves (list_part l.reads x (listing_of l)) (list_part l.reads (without_run id l.away) (left id (listing_of l)))) × (row.entry.id ≡ id)) (sym was)
-    (subst (λ (x : List Run). (row : Leaves (list_part l.reads (f.ahead ++ run_on o.entry ∷ f.behind) (listing_of l)) (list_part l.reads x (left id (listing_of l)))) × (row.entry.id ≡ id)) (sym f.without) (
-      row-leaves (listing_of l) l.reads id o.entry f.ahead f.behind holds.rises o.there,
-      ap (λ (r : Record). r.id) (leaves_entry (listing_of l) l.reads id o.entry f.ahead f.behind holds.rises o.there) ∙ (record_at l.records id o.entry holds.rises o.there).same_id,
-    ))
-is_change k (change.Dead id) l holds may =
-    let o = one_record id 0 (λ (r : Record). not r.dead && (r.users == 0)) l.records holds.rises may in
-    let both = and_parts (not o.entry.dead) (o.entry.users == 0) o.passes in
-    let alive : o.entry.dead ≡ false = alive_if o.entry.dead both.0 in
-    let unused : o.entry.users ≡ 0 = eqb-true o.entry.users 0 both.1 in (
-      row-marks_dead (listing_of l) l.reads id o.entry l.away holds.rises o.there alive unused,
-      marks_id (listing_of l) l.reads id o.entry l.away holds.rises o.there alive unused,
-    )
+    let o = one_record id 0 (is_loaded_as f.run) l.records holds.rises (leaving l id f.run f.on_id (holds.away f.ahead f.run f.behind f.is)) in
+    leaves l id o.entry f.ahead f.behind holds.rises o.there (f.is ∙ ap (λ (x : Run). f.ahead ++ x ∷ f.behind) (run_is f.run o.entry o.passes)) f.without
+is_change k (change.Dead id) l holds may = let o = one_record id 0 (λ (r : Record). not r.dead && (r.users == 0)) l.records holds.rises may in marks l id o.entry holds.rises o.there o.passes
 is_change k change.Sweep l holds may = record { after = refl }
 is_change k (change.Release id) l holds may = let d = is_done id l.sweep may in (d.ids, row-releases (listing_of l) l.reads id l.away d.ids d.is d.has)
 

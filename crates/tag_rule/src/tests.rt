@@ -1,15 +1,17 @@
 ghost use Rattle.std.specs.Prelude.{None, ◌<◌, ◌≡◌};
 ghost use Rattle.tag_model.specs.declared.state.Held.TheVariants as held;
+ghost use Rattle.tag_rule.specs.Fresh.{fresh_list};
 ghost use Rattle.tag_rule.specs.Scripts.{small_shape};
 
 use crate::{
-    CellSeat, CpuSeat, Seats, add_bytes, add_call, divide, make, part, read_own, sub_bytes,
-    sub_call, unite, write_cell,
+    CellSeat, Change, CpuSeat, ListSeat, LoadPass, Seats, add_bytes, add_call, change_list, divide,
+    load_list, make, part, read_own, scan_byte, scan_call, scan_own, sub_bytes, sub_call, unite,
+    write_cell,
 };
 use std::test::Fail;
 use tag_model::index::page_cell;
 use tag_model::shape::Shape;
-use tag_model::state::{Held, Kind, Tag};
+use tag_model::state::{Held, Kind, Reader, Tag};
 
 const TAG: Tag = Tag {
     number: 1,
@@ -88,5 +90,79 @@ fn a_reference_comes_and_goes(rt: HostRuntime) -> Result<(), Fail> {
     assert!(rt; rest.first() == first + 1 && rest.count() == 1);
     unite(pool, rest);
     unite(pool, front);
+    Ok(())
+}
+
+// A module of both tags of the area is loaded, and unloaded at once.
+fn comes_and_dies(list: &mut ListSeat, loads: &mut LoadPass)
+    requires table { loads.old.board ≡ list.old.board }
+    requires shape { list.old.board.shape ≡ small_shape }
+    requires fresh { (list.old.part ≡ fresh_list) × (loads.old.next ≡ 1) }
+    ensures board { list.new.board ≡ list.old.board }
+{
+    let id = load_list(list, loads, 7, 2, 2);
+    change_list(list, Change::Dead { id });
+}
+
+// The sweep's next read, of the CPU that is lent or as if it were another's.
+fn read_next(list: &mut ListSeat, cpu: &mut CpuSeat, own: bool) -> Option<u64>
+    requires table { cpu.old.board ≡ list.old.board }
+    ensures board { (list.new.board ≡ list.old.board) × (cpu.new.board ≡ cpu.old.board) }
+{
+    let Some(reader) = list.reader() else {
+        return None;
+    };
+    if own && reader.cpu == cpu.cpu() {
+        return Some(scan_own(list, cpu));
+    }
+    match reader.pass {
+        Kind::Bytes => Some(scan_byte(list)),
+        Kind::Calls => Some(scan_call(list)),
+    }
+}
+
+fn release_first(list: &mut ListSeat) -> Option<u32>
+    ensures board { list.new.board ≡ list.old.board }
+{
+    let Some(id) = list.releasable() else {
+        return None;
+    };
+    change_list(list, Change::Release { id });
+    Some(id)
+}
+
+// A sweep reads the byte words of both tags before their call words, and then the module goes.
+#[test]
+fn a_module_comes_and_goes(rt: HostRuntime) -> Result<(), Fail> {
+    let Seats {
+        mut cpus,
+        pages: _,
+        objects: _,
+        mut list,
+        mut loads,
+    } = make(rt.alloc(), small())?;
+    let cpu = &mut cpus[0];
+    comes_and_dies(&mut list, &mut loads);
+    assert_eq!(rt; loads.next(), 2);
+    assert_eq!(rt;
+        list.reader(),
+        Some(Reader {
+            pass: Kind::Bytes,
+            id: 1,
+            tag: 2,
+            cpu: 0,
+            sum: 0,
+        })
+    );
+    assert_eq!(rt; read_next(&mut list, cpu, false), Some(0));
+    assert_eq!(rt; read_next(&mut list, cpu, true), Some(0));
+    assert_eq!(rt; list.reader().map(|reader| reader.pass), Some(Kind::Calls));
+    assert_eq!(rt; release_first(&mut list), None);
+    assert_eq!(rt; read_next(&mut list, cpu, true), Some(0));
+    assert_eq!(rt; read_next(&mut list, cpu, false), Some(0));
+    assert_eq!(rt; read_next(&mut list, cpu, true), None);
+    assert_eq!(rt; list.stops().len(), 0);
+    assert_eq!(rt; release_first(&mut list), Some(1));
+    assert_eq!(rt; release_first(&mut list), None);
     Ok(())
 }
