@@ -29,7 +29,7 @@ use Rattle.round_check.proofs.Passed.{Fits, Passed, op_ok, fits_on, free_ok, Ent
 -- ---- lists of lines
 
 -- the first of some lines
-first_line : (on : OnOp) (others : List OnOp) (walk new : Walk) → walk_ops (on ∷ others) walk ≡ Ok new → (next : Walk) × (walk_op on.cpu on.op walk ≡ Ok next) × (walk_ops others next ≡ Ok new)
+pub first_line : (on : OnOp) (others : List OnOp) (walk new : Walk) → walk_ops (on ∷ others) walk ≡ Ok new → (next : Walk) × (walk_op on.cpu on.op walk ≡ Ok next) × (walk_ops others next ≡ Ok new)
 first_line on others walk new e =
     let b = bind_ok (at on.line (walk_op on.cpu on.op walk)) (λ next. walk_ops others next) new e in
     (b.0, at_ok on.line (walk_op on.cpu on.op walk) b.0 b.1, b.2)
@@ -95,11 +95,11 @@ pub record InOrder (one two : OnOp) (at_one at_two : Walk) : Type 0 where
   pub last : Walk
   pub passed_two : walk_op two.cpu two.op at_two ≡ Ok last
 
-all_behind : {X : Type 0} (P : X → Type 0) (front : List X) (x : X) (back : List X) → All P (front ++ x ∷ back) → P x × All P back
+pub all_behind : {X : Type 0} (P : X → Type 0) (front : List X) (x : X) (back : List X) → All P (front ++ x ∷ back) → P x × All P back
 all_behind P [] x back h = (All-head P x back h, All-tail P x back h)
 all_behind P (y ∷ front) x back h = all_behind P front x back (All-tail P y (front ++ x ∷ back) h)
 
-all_front : {X : Type 0} (P : X → Type 0) (front back : List X) → All P (front ++ back) → All P front
+pub all_front : {X : Type 0} (P : X → Type 0) (front back : List X) → All P (front ++ back) → All P front
 all_front P [] back h = λ k d below. absurd (omega arith)
 all_front P (y ∷ front) back h = All-cons P y front (All-head P y (front ++ back) h) (all_front P front back (All-tail P y (front ++ back) h))
 
@@ -126,7 +126,7 @@ in_order ops before after are fits e one two at_one at_two first second middle h
     }
 
 -- the line's CPU has named the key in this round
-record IsOf (cpu key : ℕ) (walk : Walk) : Type 0 where
+pub record IsOf (cpu key : ℕ) (walk : Walk) : Type 0 where
   pub round : (key_at walk.keys key).round ≡ walk.round
   pub cpu_is : (key_at walk.keys key).cpu ≡ cpu
 
@@ -144,7 +144,7 @@ own_cpu a b c d own same =
 named_by : (cpu key : ℕ) (on : OnOp) (walk new : Walk) → Passed on.cpu on.op walk new → IsOf cpu key walk → names_key walk.keys on.op key ≡ true → on.cpu ≡ cpu
 named_by cpu key on walk new passed of named = sym (own_cpu _ _ _ on.cpu (passed.keys.owns.own key named) of.round) ∙ of.cpu_is
 
-of_kept : (cpu key : ℕ) → key < 65536 → (on : OnOp) (walk new : Walk) → Passed on.cpu on.op walk new → (length walk.keys ≡ 65536) × IsOf cpu key walk → (length new.keys ≡ 65536) × IsOf cpu key new
+pub of_kept : (cpu key : ℕ) → key < 65536 → (on : OnOp) (walk new : Walk) → Passed on.cpu on.op walk new → (length walk.keys ≡ 65536) × IsOf cpu key walk → (length new.keys ≡ 65536) × IsOf cpu key new
 of_kept cpu key below on walk new passed h =
     by_bool (names_key walk.keys on.op key)
     (λ named.
@@ -221,10 +221,10 @@ fits_op sections (op.Enter section) few is = omega (arith, is.1)
 fits_op sections (op.Leave section) few is = omega (arith, is.1)
 fits_op sections (op.Unload section) few is = omega (arith, is.1)
 
-fits_all : (cpus : ℕ) (sections : List Section) (ops : List OnOp) → cpus ≤ 64 → length sections ≤ 65 → All (IsFormedOn cpus sections) ops → All FitsOn ops
+pub fits_all : (cpus : ℕ) (sections : List Section) (ops : List OnOp) → cpus ≤ 64 → length sections ≤ 65 → All (IsFormedOn cpus sections) ops → All FitsOn ops
 fits_all cpus sections ops low few are = All-weaker (IsFormedOn cpus sections) FitsOn (λ on is. (omega (arith, is.0), fits_op sections on.op few is.1)) ops are
 
-fits_item : (cpus : ℕ) (sections : List Section) (i : Item) → cpus ≤ 64 → length sections ≤ 65 → IsFormedItem cpus sections i → FitsItem i
+pub fits_item : (cpus : ℕ) (sections : List Section) (i : Item) → cpus ≤ 64 → length sections ≤ 65 → IsFormedItem cpus sections i → FitsItem i
 fits_item cpus sections (item.Round ops) low few is = fits_all cpus sections ops low few is
 fits_item cpus sections (item.Load line section) low few is = omega (arith, is.1)
 fits_item cpus sections item.Print low few is = tt
@@ -249,7 +249,7 @@ items_fit (i ∷ items) walk new are fits e =
     let b = bind_ok (walk_item i walk) (λ next. walk_items items next) new e in
     items_fit items b.0 new (All-tail FitsItem i items are) (item_fits i walk b.0 (All-head FitsItem i items are) fits b.1) b.2
 
-items_behind : (front back : List Item) (walk here new : Walk) → walk_items front walk ≡ Ok here → walk_items (front ++ back) walk ≡ Ok new → walk_items back here ≡ Ok new
+pub items_behind : (front back : List Item) (walk here new : Walk) → walk_items front walk ≡ Ok here → walk_items (front ++ back) walk ≡ Ok new → walk_items back here ≡ Ok new
 items_behind [] back walk here new f e = let same : walk ≡ here = cc in subst (λ w. walk_items back w ≡ Ok new) same e
 items_behind (i ∷ front) back walk here new f e =
     let one = bind_ok (walk_item i walk) (λ next. walk_items front next) here f in
@@ -269,7 +269,7 @@ long_modules : (n : ℕ) → length (absent_modules n) ≡ n
 unfolding absent_modules
 long_modules n = length-replicate n absent
 
-start_fits : Fits start
+pub start_fits : Fits start
 start_fits = record { keys = long_keys 65536; modules = long_modules 65 }
 
 -- a round of a trace that the check takes

@@ -90,7 +90,7 @@ all_parts mine key first (suc more) above all =
 
 -- ---- each op
 
-one_given_live : (given : Storage) (w : WorkerState) → (one_given given w).live ≡ w.live
+pub one_given_live : (given : Storage) (w : WorkerState) → (one_given given w).live ≡ w.live
 one_given_live (storage.Pages block) w = refl
 one_given_live (storage.Object home frame place vector holds) w = refl
 one_given_live (storage.Uncounted home frame place) w = refl
@@ -99,7 +99,7 @@ either_live : (b : Bool) (x y : WorkerState) (live : Live) → x.live ≡ live �
 either_live true x y live p q = p
 either_live false x y live p q = q
 
-freed_live : (content : Content) (w : WorkerState) → (given_back content w).live ≡ w.live
+pub freed_live : (content : Content) (w : WorkerState) → (given_back content w).live ≡ w.live
 freed_live (Nothing order) w = refl
 freed_live (Stored given) w = either_live (is_home given w) _ _ w.live refl refl
 

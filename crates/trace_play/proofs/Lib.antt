@@ -3,3 +3,7 @@ pub mod Entries
 pub mod AloneLemmas
 pub mod SideBySide
 pub mod Rising
+pub mod Told
+pub mod KeysFit
+pub mod RoundFits
+pub mod TraceFits

@@ -71,7 +71,7 @@ round_live ops m =
     fold_keeps (λ (x : Machine). x.live ≡ marked.live) storage_home (λ x given h. h) (on_its_way marked) (none_on_its_way marked) refl
     ∙ fold_keeps (λ (x : Machine). x.live ≡ left.live) module_done (λ x what h. module_live x what ∙ h) (map (λ (on : OnOp). on.op) ops) left refl
 
-item_rises : (trace : Trace) (top : Option ℕ) (what : Item) (p : Played) → T (rises p.machine.live) → T (rises (item_played trace top what p).machine.live)
+pub item_rises : (trace : Trace) (top : Option ℕ) (what : Item) (p : Played) → T (rises p.machine.live) → T (rises (item_played trace top what p).machine.live)
 item_rises trace top (item.Round ops) p r = subst (λ (live : Live). T (rises live)) (sym (round_live ops p.machine)) (cpus_rise ops p.machine r)
 item_rises trace top (item.Load line section) p r = r
 item_rises trace top item.Print p r = r

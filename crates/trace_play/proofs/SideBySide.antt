@@ -1,19 +1,20 @@
 -- The CPUs of a round side by side, and in either order.
-use Rattle.std.proofs.Common.{◌≡◌, ◌≢◌, ℕ, zero, suc, ◌+◌, ◌≤◌, ◌<◌, Bool, true, false, not, List, ◌++◌, None, nat_cmp, length, set, refl, sym, ap, ◌∙◌, subst, arith}
+use Rattle.std.proofs.Common.{eqb, [], ◌∷◌, ◌≡◌, ◌≢◌, ℕ, zero, suc, ◌+◌, ◌≤◌, ◌<◌, Bool, true, false, not, List, ◌++◌, None, nat_cmp, length, set, refl, sym, ap, ◌∙◌, subst, arith}
 use Rattle.std.specs.Prelude.{fold, sum_by}
 use Rattle.std.specs.List.{range_with_len}
 use Rattle.std.specs.FinMap.Entries.{find}
-use Rattle.std.proofs.lemmas.Bool.{cond-true}
-use Rattle.std.proofs.lemmas.List.{get_or-set_other, set_comm}
+use Rattle.std.proofs.lemmas.Bool.{cond-true, eqb-true, eqb-false}
+use Rattle.std.proofs.lemmas.List.{get_or-set_other, set_comm, length-set}
+use Rattle.std.proofs.lemmas.Grind.{get_or-set_at}
 use Rattle.std.proofs.lemmas.List.Sums.{sum_by-append}
 use Rattle.tag_model.specs.Moves.{Move}
 use Rattle.module_area.specs.Area.{Area}
 use Rattle.trace.specs.declared.traces.OnOp.{OnOp}
 use Rattle.trace_play.specs.Live.{Live}
 use Rattle.trace_play.specs.Worker.{Tally, WorkerState, all_done}
-use Rattle.trace_play.specs.Machine.{Machine, fresh_seat, worker_at, with_worker, nothing_done}
+use Rattle.trace_play.specs.Machine.{seat_at, Machine, fresh_seat, worker_at, with_worker, nothing_done}
 use Rattle.trace_play.specs.Barrier.{ops_of, cpu_done, cpus_done}
-use Rattle.trace_play.specs.Alone.{rises, kept, names_only, alone, joined, others, rejoined, given_back, side_by_side, AreApart, NoneShared, NamesItsOwn, SameButOrder}
+use Rattle.trace_play.specs.Alone.{worker_done, rises, kept, names_only, alone, joined, others, rejoined, given_back, side_by_side, AreApart, NoneShared, NamesItsOwn, SameButOrder}
 use Rattle.trace_play.proofs.Entries.{kept_within, find_kept, same}
 use Rattle.trace_play.proofs.AloneLemmas.{holds, holding, all_touch, still_rises, is_alone, own_names, own_keys, other_keys}
 
@@ -54,6 +55,13 @@ untouched_behind mine yours ops now cpu other r names apart none =
     let seat = get_or-set_other now.seats cpu other left.seat (fresh_seat 0 0 other) apart in
     λ i. record { seat = seat i; live = live i; tally = nothing_done }
 
+pub find_of_kept : (p : ℕ → Bool) (q : ℕ) (live other : Live) → kept p live ≡ other → p q ≡ true → find nat_cmp q live ≡ find nat_cmp q other
+find_of_kept p q live other e is = sym (cond-true (p q) (find nat_cmp q live) None is) ∙ sym (find_kept p q live) ∙ ap (find nat_cmp q) e
+
+pub kept_all : (live : Live) → kept (λ _. true) live ≡ live
+kept_all [] = refl
+kept_all (e ∷ live) = ap (λ es. e ∷ es) (kept_all live)
+
 -- ---- all CPUs
 
 module _ (own : ℕ → ℕ → Bool) (ops : List OnOp) (m : Machine) (r : rises m.live ≡ true) (apart : NoneShared own) (names : (cpu : ℕ) → cpu < length m.seats → NamesItsOwn (own cpu) ops m cpu) where
@@ -70,10 +78,83 @@ module _ (own : ℕ → ℕ → Bool) (ops : List OnOp) (m : Machine) (r : rises
   pub are_side_by_side : cpus_done ops m ≡ side_by_side own ops m
   are_side_by_side = goes_on (length m.seats) 0 m (omega arith) r refl (λ cpu _. refl)
 
--- ---- two CPUs in either order
+  -- what a CPU has once its turn is over
+  abbrev IsLeft : ℕ → Machine → Type 0
+  IsLeft cpu now = alone (own cpu) (worker_at cpu now) ≡ alone (λ _. true) (worker_done own ops m cpu)
 
-find_of_kept : (p : ℕ → Bool) (q : ℕ) (live other : Live) → kept p live ≡ other → p q ≡ true → find nat_cmp q live ≡ find nat_cmp q other
-find_of_kept p q live other e is = sym (cond-true (p q) (find nat_cmp q live) None is) ∙ sym (find_kept p q live) ∙ ap (find nat_cmp q) e
+  step_begins : (from : ℕ) (now : Machine) → rises now.live ≡ true → NamesItsOwn (own from) ops now from → (cpu : ℕ) → cpu ≢ from → alone (own cpu) (worker_at cpu (cpu_done ops now from)) ≡ alone (own cpu) (worker_at cpu now)
+  step_begins from now up names cpu differ = untouched_behind (own from) (own cpu) ops now from cpu up names differ (apart cpu from differ)
+
+  -- later CPUs leave it
+  left_by_later : (count from : ℕ) (now : Machine) → from + count ≤ length m.seats → rises now.live ≡ true → now.area ≡ m.area
+      → ((cpu : ℕ) → from ≤ cpu → alone (own cpu) (worker_at cpu now) ≡ alone (own cpu) (worker_at cpu m))
+      → (cpu : ℕ) → cpu < from → alone (own cpu) (worker_at cpu (fold (cpu_done ops) now (range_with_len from count))) ≡ alone (own cpu) (worker_at cpu now)
+  left_by_later zero from now few up area begins cpu low = refl
+  left_by_later (suc count) from now few up area begins cpu low =
+      let is = done_is (own from) ops m now from r up area (begins from (omega arith)) (names from (omega arith)) in
+      left_by_later count (from + 1) (cpu_done ops now from) (omega arith) (rises_behind (own from) ops now from up is.0) area
+      (λ later above. step_begins from now up is.0 later (λ e. omega arith) ∙ begins later (omega arith)) cpu (omega arith)
+      ∙ step_begins from now up is.0 cpu (λ e. omega arith)
+
+  left_here : (from : ℕ) (now : Machine) → from < length now.seats → rises now.live ≡ true → now.area ≡ m.area → alone (own from) (worker_at from now) ≡ alone (own from) (worker_at from m) → NamesItsOwn (own from) ops m from → IsLeft from (cpu_done ops now from)
+  left_here from now low up area begins here =
+      let is = done_is (own from) ops m now from r up area begins here in
+      let entries = now.area.entries in
+      let worker = worker_done own ops m from in
+      let same : all_done entries (ops_of from ops) (alone (own from) (worker_at from now)) ≡ worker = λ i. all_done (area i).entries (ops_of from ops) (begins i) in
+      let live : kept (own from) (cpu_done ops now from).live ≡ worker.live = own_keys (own from) entries (ops_of from ops) (worker_at from now) up is.0 ∙ ap (λ (w : WorkerState). w.live) same in
+      let done_now = all_done entries (ops_of from ops) (worker_at from now) in
+      let seat : seat_at from (cpu_done ops now from) ≡ worker.seat =
+      get_or-set_at now.seats from from done_now.seat (fresh_seat 0 0 from) refl low
+      ∙ ap (λ (w : WorkerState). w.seat) (is_alone (own from) entries (ops_of from ops) (worker_at from now) up is.0)
+      ∙ ap (λ (w : WorkerState). w.seat) same in
+      λ i. record { seat = seat i; live = (live ∙ sym (kept_all worker.live)) i; tally = nothing_done }
+
+  lefts : (count from : ℕ) (now : Machine) → from + count ≤ length m.seats → length now.seats ≡ length m.seats → rises now.live ≡ true → now.area ≡ m.area
+      → ((cpu : ℕ) → from ≤ cpu → alone (own cpu) (worker_at cpu now) ≡ alone (own cpu) (worker_at cpu m))
+      → (cpu : ℕ) → from ≤ cpu → cpu < from + count → IsLeft cpu (fold (cpu_done ops) now (range_with_len from count))
+  lefts zero from now few long up area begins cpu low high = absurd (omega arith)
+  lefts (suc count) from now few long up area begins cpu low high =
+      let is = done_is (own from) ops m now from r up area (begins from (omega arith)) (names from (omega arith)) in
+      let next = cpu_done ops now from in
+      let begins_next = λ (later : ℕ) (above : from + 1 ≤ later). step_begins from now up is.0 later (λ e. omega arith) ∙ begins later (omega arith) in
+      let up_next = rises_behind (own from) ops now from up is.0 in
+      by_cases (eqb cpu from) refl
+      (λ e.
+      left_by_later count (from + 1) next (omega arith) up_next area begins_next cpu (omega (arith, e))
+      ∙ subst (λ c. IsLeft c next) (sym e) (left_here from now (omega arith) up area (begins from (omega arith)) (names from (omega arith))))
+      (λ apart. lefts count (from + 1) next (omega arith) (length-set now.seats from _ ∙ long) up_next area begins_next cpu (omega arith) (omega arith))
+    where
+      by_cases : (b : Bool) → eqb cpu from ≡ b → {P : Type 0} → (cpu ≡ from → P) → (cpu ≢ from → P) → P
+      by_cases true e yes_so no_so = yes_so (eqb-true cpu from e)
+      by_cases false e yes_so no_so = no_so (eqb-false cpu from e)
+
+  -- each CPU has what its worker left
+  pub are_left : (cpu : ℕ) → cpu < length m.seats → IsLeft cpu (cpus_done ops m)
+  are_left cpu low = lefts (length m.seats) 0 m (omega arith) refl r refl (λ c _. refl) cpu (omega arith) (omega arith)
+
+  pub each_has : (cpu : ℕ) → cpu < length m.seats → (seat_at cpu (cpus_done ops m) ≡ (worker_done own ops m cpu).seat) × (kept (own cpu) (cpus_done ops m).live ≡ (worker_done own ops m cpu).live)
+  each_has cpu low =
+      let is = are_left cpu low in
+      (ap (λ (w : WorkerState). w.seat) is, ap (λ (w : WorkerState). w.live) is ∙ kept_all (worker_done own ops m cpu).live)
+
+  unnamed_stays : (key count from : ℕ) (now : Machine) → from + count ≤ length m.seats → rises now.live ≡ true → now.area ≡ m.area
+      → ((cpu : ℕ) → from ≤ cpu → alone (own cpu) (worker_at cpu now) ≡ alone (own cpu) (worker_at cpu m)) → ((cpu : ℕ) → cpu < length m.seats → own cpu key ≡ false)
+      → find nat_cmp key (fold (cpu_done ops) now (range_with_len from count)).live ≡ find nat_cmp key now.live
+  unnamed_stays key zero from now few up area begins none = refl
+  unnamed_stays key (suc count) from now few up area begins none =
+      let is = done_is (own from) ops m now from r up area (begins from (omega arith)) (names from (omega arith)) in
+      let next = cpu_done ops now from in
+      unnamed_stays key count (from + 1) next (omega arith) (rises_behind (own from) ops now from up is.0) area
+      (λ later above. step_begins from now up is.0 later (λ e. omega arith) ∙ begins later (omega arith)) none
+      ∙ find_of_kept (others (own from)) key next.live (kept (others (own from)) now.live) (other_keys (own from) now.area.entries (ops_of from ops) (worker_at from now) up is.0) (ap not (none from (omega arith)))
+      ∙ sym (find_of_kept (others (own from)) key now.live (kept (others (own from)) now.live) refl (ap not (none from (omega arith))))
+
+  -- a key of no CPU stays
+  pub unnamed : (key : ℕ) → ((cpu : ℕ) → cpu < length m.seats → own cpu key ≡ false) → find nat_cmp key (cpus_done ops m).live ≡ find nat_cmp key m.live
+  unnamed key none = unnamed_stays key (length m.seats) 0 m (omega arith) r refl (λ c _. refl) none
+
+-- ---- two CPUs in either order
 
 -- what stands of two CPUs' keys, one behind the other
 either_order_at : (mine yours : ℕ → Bool) (q : ℕ) → AreApart mine yours → (a1 a2 b1 b2 first d1 d2 : Live)

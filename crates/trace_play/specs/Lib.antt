@@ -7,4 +7,5 @@ pub mod Play
 pub mod Answer
 pub mod Left
 pub mod Alone
+pub mod Fits
 pub mod Rows

@@ -1,12 +1,13 @@
 //! Laws of the ops of a round. The functions do nothing: what they promise are laws of the definitions.
 
-ghost use Rattle.std.specs.Prelude.{ℕ, Bool, List, length, not, true, ◌<◌, ◌≡◌, ◌≢◌};
+ghost use Rattle.std.specs.Prelude.{ℕ, Bool, List, false, length, true, ◌<◌, ◌≡◌, ◌≢◌};
 ghost use Rattle.module_area.specs.declared.entry.Entry.{Entry};
 ghost use Rattle.trace.specs.declared.traces.OnOp.{OnOp};
 ghost use Rattle.trace.specs.declared.traces.TraceOp.{TraceOp};
-ghost use Rattle.trace_play.specs.Alone.{alone, kept, names_only, others, rejoined, rises, side_by_side, AreApart, NamesItsOwn, NoneShared, SameButOrder};
+ghost use Rattle.trace_play.specs.Alone.{alone, kept, names_only, others, rejoined, rises, side_by_side, worker_done, AreApart, NamesItsOwn, NoneShared, SameButOrder};
 ghost use Rattle.trace_play.specs.Barrier.{cpu_done, cpus_done};
-ghost use Rattle.trace_play.specs.Machine.{Machine};
+ghost use Rattle.trace_play.specs.Fits.{entry_at};
+ghost use Rattle.trace_play.specs.Machine.{Machine, seat_at};
 ghost use Rattle.trace_play.specs.Worker.{WorkerState, all_done};
 
 /// A CPU whose ops name its own keys alone does among the others' keys what it does without them: the same to its
@@ -25,8 +26,12 @@ pub fn a_cpu_is_alone()
 /// Where each CPU names its own keys alone and no key is of two, a round's ops do what workers do side by side, each
 /// with its own keys as they stand when the round begins.
 pub fn cpus_are_side_by_side()
-    ensures { (own : ℕ → ℕ → Bool) (ops : List OnOp) (m : Machine) → rises m.live ≡ true → NoneShared own → ((cpu : ℕ) → cpu < length m.seats → NamesItsOwn (own cpu) ops m cpu)
+    ensures done { (own : ℕ → ℕ → Bool) (ops : List OnOp) (m : Machine) → rises m.live ≡ true → NoneShared own → ((cpu : ℕ) → cpu < length m.seats → NamesItsOwn (own cpu) ops m cpu)
         → cpus_done ops m ≡ side_by_side own ops m }
+    ensures of_each { (own : ℕ → ℕ → Bool) (ops : List OnOp) (m : Machine) → rises m.live ≡ true → NoneShared own → ((cpu : ℕ) → cpu < length m.seats → NamesItsOwn (own cpu) ops m cpu)
+        → (cpu : ℕ) → cpu < length m.seats → (seat_at cpu (cpus_done ops m) ≡ (worker_done own ops m cpu).seat) × (kept (own cpu) (cpus_done ops m).live ≡ (worker_done own ops m cpu).live) }
+    ensures of_none { (own : ℕ → ℕ → Bool) (ops : List OnOp) (m : Machine) → rises m.live ≡ true → NoneShared own → ((cpu : ℕ) → cpu < length m.seats → NamesItsOwn (own cpu) ops m cpu)
+        → (key : ℕ) → ((cpu : ℕ) → cpu < length m.seats → own cpu key ≡ false) → entry_at key (cpus_done ops m).live ≡ entry_at key m.live }
 {}
 
 /// Two CPUs that name no common key may go in either order. What is printed is the same, and so is each sum over the

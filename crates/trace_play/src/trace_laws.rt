@@ -1,12 +1,25 @@
 //! Laws of what a trace leaves. The functions do nothing: what they promise are laws of the definitions.
 
-ghost use Rattle.std.specs.Prelude.{ℕ, List, Option, true, ◌≡◌};
+ghost use Rattle.std.specs.Prelude.{ℕ, List, None, Ok, Option, true, ◌≡◌};
+ghost use Rattle.round_check.specs.Rounds.{IsRound};
+ghost use Rattle.round_check.specs.Walk.{rounds_of};
+ghost use Rattle.round_check.specs.declared.walk.Walk.{Walk};
+ghost use Rattle.trace.specs.Formed.{IsFormedTrace};
 ghost use Rattle.trace.specs.declared.traces.Item.{Item};
+ghost use Rattle.trace.specs.declared.traces.OnOp.{OnOp};
 ghost use Rattle.trace.specs.declared.traces.Trace.{Trace};
 ghost use Rattle.trace_play.specs.Alone.{rises};
+ghost use Rattle.trace_play.specs.Fits.{RoundFits};
 ghost use Rattle.trace_play.specs.Play.{played_so_far};
 
 /// After any items of any trace no key stands twice in the live list.
 pub fn no_key_stands_twice()
     ensures { (trace : Trace) (top : Option ℕ) (items : List Item) → rises (played_so_far trace top items).played.machine.live ≡ true }
+{}
+
+/// Each round of a checked trace fits what the items before it left, where no `load` of these was refused: each CPU
+/// names its own keys alone, and each of its ops finds its keys as it needs them.
+pub fn checked_rounds_fit()
+    ensures { (trace : Trace) (top : Option ℕ) (ops : List OnOp) (before : Walk) → IsFormedTrace trace → rounds_of trace ≡ Ok tt → (round : IsRound trace ops before)
+        → (played_so_far trace top round.front).refused ≡ None → RoundFits ops before (played_so_far trace top round.front).played.machine }
 {}
