@@ -13,7 +13,7 @@ use Rattle.tag_model.specs.declared.state.Held.{Held}
 use Rattle.tag_model.specs.declared.state.Held.TheVariants as held
 use Rattle.tag_model.specs.RefMoves.{part_of, trimmed, reference_to}
 use Rattle.module_area.specs.declared.entry.Entry.{Entry}
-use Rattle.slab_cache.specs.Blocks.{page_bytes}
+use Rattle.page_ext.specs.Blocks.{page_bytes}
 use Rattle.slab_cache.specs.Slabs.{NodeState}
 use Rattle.slab_cache.specs.Storage.{Pages, Object, Uncounted}
 use Rattle.slab_cache.specs.Giving.{Given, given_block, given_object, start_in, block_from}
@@ -29,7 +29,7 @@ use Rattle.round_check.specs.Keys.{key_at, new_count, bind, bind_all, whole_bloc
 use Rattle.round_check.specs.Rounds.{is_one_of, new_keys, keys_of}
 use Rattle.round_check.specs.Tables.{unbound}
 use Rattle.round_check.specs.Walk.{turn_of}
-use Rattle.trace_play.specs.Parts.{parts_in}
+use Rattle.split_swap.specs.Parts.{parts_in}
 use Rattle.trace_play.specs.Live.{Content, Nothing, Stored, Live, content_at, put, without, held_of, order_of, with_held, is_nothing, part_in, part_key, split_live, swap_live, trim_live}
 use Rattle.trace_play.specs.Worker.{WorkerState, current_tag, allocated, freed, with_moves, with_live, with_node, done}
 use Rattle.trace_play.specs.Alone.{named_by}

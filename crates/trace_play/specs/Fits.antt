@@ -5,7 +5,7 @@ use Rattle.std.specs.FinMap.Entries as entries
 use Rattle.tag_model.specs.declared.state.Held.{Held}
 use Rattle.tag_model.specs.declared.state.Held.TheVariants as held
 use Rattle.module_area.specs.declared.entry.Entry.{Entry}
-use Rattle.slab_cache.specs.Blocks.{page_bytes}
+use Rattle.page_ext.specs.Blocks.{page_bytes}
 use Rattle.slab_cache.specs.Storage.{Pages, Object, Uncounted}
 use Rattle.trace.specs.declared.traces.OnOp.{OnOp}
 use Rattle.trace.specs.declared.traces.TraceOp.{TraceOp}
@@ -16,7 +16,7 @@ use Rattle.round_check.specs.declared.keys.Bound.TheVariants as kept
 use Rattle.round_check.specs.declared.keys.KeyState.{KeyState}
 use Rattle.round_check.specs.declared.walk.Walk.{Walk}
 use Rattle.round_check.specs.Keys.{key_at}
-use Rattle.trace_play.specs.Parts.{parts_in}
+use Rattle.split_swap.specs.Parts.{parts_in}
 use Rattle.trace_play.specs.Live.{Content, Nothing, Stored, Live}
 use Rattle.round_check.specs.Walk.{walk_ops}
 use Rattle.trace_play.specs.Worker.{WorkerState, done}
