@@ -65,7 +65,7 @@ next_run parts first total done size rest is h =
 
 -- ---- what a fresh pool keeps
 
-count_run : (n a m : ℕ) → count_by (λ x. x == n) (range_with_len a m) ≡ one_if (in_range a m n)
+pub count_run : (n a m : ℕ) → count_by (λ x. x == n) (range_with_len a m) ≡ one_if (in_range a m n)
 count_run n a zero = sym (empty_span a n)
 count_run n a (suc m) = omega (arith, count_run n (a + 1) m, sum_by-cons (λ (x : ℕ). cond {A = ℕ} (x == n) 1 0) a (range_with_len (a + 1) m), first_span a m n)
 

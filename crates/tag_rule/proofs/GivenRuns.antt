@@ -133,7 +133,7 @@ module _ (k : Shape) (id : ℕ) (c : CpuPart) (l : ListPart) where
 -- ---- what the cover law says between the two
 
 -- a record's users are those of its id
-users_here : (k : Shape) (l : ListPart) → ListLaws k l → (front : List Record) (r : Record) (back : List Record) → l.records ≡ front ++ r ∷ back → users_of r.id (Modules l) ≡ r.users
+pub users_here : (k : Shape) (l : ListPart) → ListLaws k l → (front : List Record) (r : Record) (back : List Record) → l.records ≡ front ++ r ∷ back → users_of r.id (Modules l) ≡ r.users
 users_here k l laws front r back is =
     subst (λ (rs : List Record). sum_by (λ (x : Record). if x.id == r.id then x.users else 0) rs ≡ r.users) (sym is)
     (field_here (λ (x : Record). x.users) front r back r.id refl (subst (λ (rs : List Record). count_by (λ (x : Record). x.id == r.id) rs ≤ 1) is (laws.apart r.id)))

@@ -21,3 +21,5 @@ pub mod Changed
 pub mod Loads
 pub mod Meets
 pub mod GivenRuns
+pub mod Noted
+pub mod AllMeet

@@ -31,7 +31,7 @@ pub use changing::{Change, change_list};
 pub use cpu::CpuSeat;
 pub use loading::load_list;
 pub use making::{Seats, make};
-pub use meeting::meet;
+pub use meeting::{meet, meet_all};
 pub use modules::{ListSeat, LoadPass};
 pub use moving::{give_run, take_run};
 pub use naming::Name;
