@@ -1,15 +1,13 @@
 -- What cuts of a text give, and what a text is that was cut.
-use Rattle.std.proofs.Common.{◌≡◌, ℕ, zero, suc, ◌+◌, ◌<◌, ◌≤◌, Bool, true, false, eqb, cond, List, [], ◌∷◌, ◌++◌, length, get_or, take, drop, replicate, Option, Some, None, position, refl, sym, ap, ◌∙◌, subst, arith}
+use Rattle.std.proofs.Common.{◌≡◌, ℕ, zero, suc, ◌+◌, ◌<◌, ◌≤◌, true, false, eqb, cond, List, [], ◌∷◌, ◌++◌, length, get_or, take, drop, replicate, Option, Some, None, position, refl, sym, ap, ◌∙◌, subst, arith}
 use Rattle.std.specs.Borrow.{Bor}
-use Rattle.std.specs.List.{position_or_len}
 use Rattle.std.specs.Option.{option_map, option_and_then, option_copied, MatchOption}
 use Rattle.std.specs.Str.{bytes_eq}
 use Rattle.std.proofs.lemmas.Bool.{cond_both, cond-true, cond-false, eqb-true, eq-eqb, and_parts}
-use Rattle.std.proofs.lemmas.Grind.{common_steps}
 use Rattle.std.proofs.lemmas.List.{at_drop_more}
 use Rattle.std.proofs.lemmas.List.Quantifiers.{position-Some}
 use Rattle.std.proofs.lemmas.List.Sums.{fails_before_first}
-use Rattle.text_form.proofs.Parts.{round}
+use Rattle.text_form.proofs.Parts.{round, none_before}
 use Rattle.info_read.specs.Cuts.{cut, after_word, spaces_before}
 
 -- no byte of the text is the mark
@@ -67,9 +65,6 @@ cut_at mark text i e =
     let lacks = lacks_front mark text i (omega (arith, found.0)) found.2 in
     let whole = round text i found.0 ∙ ap (λ x. take i text ++ x ∷ drop (i + 1) text) (eqb-true _ _ found.1) in
     ap (cut mark) whole ∙ cut_joined mark (take i text) (drop (i + 1) text) lacks
-
-none_before : (p : ℕ → Bool) (bs : List ℕ) → position p bs ≡ None → length bs ≤ position_or_len p bs
-none_before p bs e = grind (arith, common_steps)
 
 pub cut_none : (mark : ℕ) (text : List ℕ) → position (λ b. eqb b mark) text ≡ None → cut mark text ≡ None
 cut_none mark text e =

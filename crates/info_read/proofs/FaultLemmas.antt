@@ -13,7 +13,7 @@ use Rattle.info_read.specs.Grammar.{IsLineOf, AreLinesOf, Spells, IsInPlace, IsF
 use Rattle.info_read.specs.Line.{row_of}
 use Rattle.info_read.specs.Reading.{◌>>=◌, Reads, behind, rows_from, rows_of}
 use Rattle.info_read.proofs.LineLemmas.{line_read, line_printed}
-use Rattle.info_read.proofs.TextLemmas.{behind_was, text_was, spelled_reads, read_spells}
+use Rattle.info_read.proofs.TextLemmas.{was_some, behind_was, text_was, spelled_reads, read_spells}
 
 -- two first faults are one
 pub one_fault : (lines : List (List ℕ)) (tail : List ℕ) (m n : ℕ) → IsFault lines tail m → IsFault lines tail n → m ≡ n
@@ -68,10 +68,6 @@ then_err f (Err m) n e = inl cc
 was_none : {A E : Type 0} (o : Option A) (m n : E) → ok_or o m ≡ Err n → (o ≡ None) × (m ≡ n)
 was_none None m n e = (refl, cc)
 was_none (Some x) m n e = let no : ⊥ = cc in absurd no
-
-was_some : {A E : Type 0} (o : Option A) (n : E) (x : A) → ok_or o n ≡ Ok x → o ≡ Some x
-was_some None n x e = let no : ⊥ = cc in absurd no
-was_some (Some y) n x e = cc
 
 stops : (number : ℕ) (lines : List (List ℕ)) (tail : List ℕ) (far : List InfoRow) (n : ℕ) → rows_from number lines tail far ≡ Err n → (k : ℕ) × (n ≡ number + k) × StopsAt lines tail k
 stops number [] tail far n e =

@@ -9,4 +9,3 @@ pub mod TextLemmas
 pub mod FaultLemmas
 pub mod BackLemmas
 pub mod OwnLemmas
-pub mod FirstLemmas

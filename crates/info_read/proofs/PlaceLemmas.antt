@@ -115,7 +115,8 @@ pub last_read_space : (word : List ℕ) → Lacks 32 word → last_word (word ++
 unfolding last_word
 last_read_space word lacks = ap (last_from (word ++ codes " ")) (cut_joined 32 word [] lacks)
 
-no_bytes : (xs : List ℕ) → eqb (length xs) 0 ≡ true → xs ≡ []
+-- no bytes
+pub no_bytes : (xs : List ℕ) → eqb (length xs) 0 ≡ true → xs ≡ []
 no_bytes [] e = refl
 no_bytes (x ∷ xs) e = absurd (omega (arith, eqb-true (length (x ∷ xs)) 0 e))
 

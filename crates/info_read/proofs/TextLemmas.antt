@@ -1,9 +1,9 @@
 -- A text, read and printed.
-use Rattle.std.proofs.Common.{◌≡◌, ℕ, ◌+◌, true, eqb, List, [], ◌∷◌, ◌++◌, length, Option, Some, None, Result, Ok, Err, refl, sym, ap, ◌∙◌, subst, arith, append_assoc}
+use Rattle.std.proofs.Common.{◌≡◌, ℕ, ◌+◌, eqb, List, [], ◌∷◌, ◌++◌, length, Option, Some, None, Result, Ok, Err, refl, sym, ap, ◌∙◌, subst, append_assoc}
 use Rattle.std.specs.List.{join_with_byte}
 use Rattle.std.specs.Option.{ok_or}
 use Rattle.std.specs.Str.{bytes_eq}
-use Rattle.std.proofs.lemmas.Bool.{cond_both, eqb-true}
+use Rattle.std.proofs.lemmas.Bool.{cond_both}
 use Rattle.std.proofs.lemmas.List.{append-nil}
 use Rattle.allocinfo.specs.Text.{header_text}
 use Rattle.text_form.specs.Lines.{lines_of, tail_of}
@@ -14,13 +14,14 @@ use Rattle.info_read.specs.Line.{row_of}
 use Rattle.info_read.specs.Reading.{◌>>=◌, behind, rows_from, rows_of}
 use Rattle.info_read.proofs.LineLemmas.{line_read, line_printed}
 use Rattle.info_read.proofs.NewlineLemmas.{lines_more, lines_of_ended, joined_ended, title_lacks, columns_lacks, rows_lack}
-use Rattle.info_read.proofs.PlaceLemmas.{same_bytes}
+use Rattle.info_read.proofs.PlaceLemmas.{same_bytes, no_bytes}
 
 then_ok : {A B E : Type 0} (f : A → Result B E) (r : Result A E) (y : B) → (r >>= f) ≡ Ok y → (x : A) × (r ≡ Ok x) × (f x ≡ Ok y)
 then_ok f (Ok x) y e = (x, refl, e)
 then_ok f (Err n) y e = let no : ⊥ = cc in absurd no
 
-was_some : {A E : Type 0} (o : Option A) (n : E) (x : A) → ok_or o n ≡ Ok x → o ≡ Some x
+-- what a refusal for none let through
+pub was_some : {A E : Type 0} (o : Option A) (n : E) (x : A) → ok_or o n ≡ Ok x → o ≡ Some x
 was_some None n x e = let no : ⊥ = cc in absurd no
 was_some (Some y) n x e = cc
 
@@ -41,10 +42,6 @@ rows_read number (row ∷ rows) (line ∷ lines) far are =
     ap (λ o. ok_or o number >>= λ row. rows_from (number + 1) lines [] (far ++ row ∷ [])) (line_read row line are.0)
     ∙ rows_read (number + 1) rows lines (far ++ row ∷ []) are.1
     ∙ ap Ok (append_assoc far (row ∷ []) rows)
-
-no_bytes : (xs : List ℕ) → eqb (length xs) 0 ≡ true → xs ≡ []
-no_bytes [] e = refl
-no_bytes (x ∷ xs) e = absurd (omega (arith, eqb-true (length (x ∷ xs)) 0 e))
 
 -- what the lines were from which rows were read
 pub record WereRows (lines : List (List ℕ)) (tail : List ℕ) (far all : List InfoRow) : Type 0 where

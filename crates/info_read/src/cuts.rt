@@ -1,22 +1,16 @@
 //! A text cut at a byte, after a word, or behind a number that stands at the right of its places.
 
-ghost use Rattle.std.specs.Prelude.{◌≡◌, ◌==◌, ◌≤◌, length, position, MatchOption};
+ghost use Rattle.std.specs.Prelude.{◌≡◌, ◌≤◌, length, MatchOption};
 ghost use Rattle.std.specs.Option.{option_copied};
 ghost use Rattle.info_read.specs.Cuts.{cut, after_word, spaces_before, unpadded};
 
-use memchr::memchr;
-
-fn mark_place(text: &[u8], mark: u8) -> Option<usize>
-    ensures { result ≡ position (λ b. b == mark) text.now }
-{
-    memchr(mark, text)
-}
+use text_form::byte_place;
 
 /// What stands before the first such byte, and what behind it.
 pub(crate) fn cut(text: &[u8], mark: u8) -> Option<(&[u8], &[u8])>
     ensures { MatchOption result (cut mark text.now ≡ None) (λ p. cut mark text.now ≡ Some (p.0.now, p.1.now)) }
 {
-    let place = mark_place(text, mark)?;
+    let place = byte_place(text, mark)?;
     Some((&text[..place], &text[place + 1..]))
 }
 

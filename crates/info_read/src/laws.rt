@@ -1,9 +1,10 @@
 //! What holds of reading and printing together.
 
-ghost use Rattle.std.specs.Prelude.{◌≡◌, ◌≤◌, List, ℕ, All, length, Ok, IfOk, IfErr};
+ghost use Rattle.std.specs.Prelude.{◌≡◌, List, ℕ, All, Ok, IfOk, IfErr};
 ghost use Rattle.tag_section.specs.Section.{Section};
 ghost use Rattle.allocinfo.specs.Text.{AreRows, IsRow, rows_text};
 ghost use Rattle.allocinfo.specs.declared.rows.Row.{Row};
+ghost use Rattle.text_form.specs.Lines.{FitsInput};
 ghost use Rattle.info_read.specs.declared.row.InfoRow.{InfoRow};
 ghost use Rattle.info_read.specs.Grammar.{IsInfoRow, IsLineOf, Spells};
 ghost use Rattle.info_read.specs.Reading.{rows_of};
@@ -63,7 +64,7 @@ pub fn printed_and_read(
     rows: &[Row],
 ) -> Result<Vec<InfoRow>, InfoError>
     requires rows { AreRows sections.now rows.now }
-    requires room { length (rows_text sections.now rows.now) ≤ 4194304 }
+    requires room { FitsInput (rows_text sections.now rows.now) }
     ensures ok { IfOk result (λ read. read.items ≡ info_rows sections.now rows.now) }
     ensures err { IfErr result IsMemory }
 {

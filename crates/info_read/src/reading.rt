@@ -1,7 +1,7 @@
 //! How a text is read.
 
 ghost use Rattle.std.specs.Prelude.{◌≡◌, ◌<◌, ◌≤◌, [], ◌∷◌, ◌++◌, length, map, All, MatchOption, IfOk, OnOk};
-ghost use Rattle.text_form.specs.Lines.{lines_of, tail_of};
+ghost use Rattle.text_form.specs.Lines.{FitsInput, lines_of, tail_of};
 ghost use Rattle.info_read.specs.Grammar.{FindsRows, FindsFault, IsInfoRow};
 ghost use Rattle.info_read.specs.Views.{row_view};
 ghost use Rattle.info_read.specs.Reading.{Reads, ReadsText, behind, rows_from, rows_of};
@@ -33,7 +33,7 @@ fn push<'a>(rows: &mut Vec<RowText<'a>>, row: RowText<'a>) -> Result<(), AllocEr
 
 // The rows of the lines behind the header.
 fn body_rows(alloc: Global, text: &[u8]) -> Result<Vec<RowText<'_>>, InfoError>
-    requires { length text.now ≤ 4194304 }
+    requires { FitsInput text.now }
     ensures { ReadsText result (rows_from 3 (lines_of text.now) (tail_of text.now) []) }
 {
     let mut rows = Vec::new(alloc);
@@ -57,7 +57,7 @@ fn body_rows(alloc: Global, text: &[u8]) -> Result<Vec<RowText<'_>>, InfoError>
 /// that is not of its form.
 #[tactic(auto, unfolding(crate::specs::Reading::rows_of))]
 pub fn read_rows(alloc: Global, bytes: &[u8]) -> Result<Vec<RowText<'_>>, InfoError>
-    requires { length bytes.now ≤ 4194304 }
+    requires { FitsInput bytes.now }
     ensures { ReadsText result (rows_of bytes.now) }
 {
     let Some(body) = behind(bytes, b"allocinfo - version: 1.0") else {
@@ -83,7 +83,7 @@ fn owned_rows(alloc: Global, rows: &[RowText<'_>]) -> Result<Vec<InfoRow>, Alloc
 
 /// The rows that a text of allocinfo spells, in their order, or the number of its first line that is not of its form.
 pub fn read_info(alloc: Global, bytes: &[u8]) -> Result<Vec<InfoRow>, InfoError>
-    requires { length bytes.now ≤ 4194304 }
+    requires { FitsInput bytes.now }
     ensures rows { FindsRows bytes.now result }
     ensures fault { FindsFault bytes.now result }
     ensures reads { Reads result (rows_of bytes.now) }
@@ -93,7 +93,7 @@ pub fn read_info(alloc: Global, bytes: &[u8]) -> Result<Vec<InfoRow>, InfoError>
 
 // The same, by what reading gives.
 fn info_rows(alloc: Global, bytes: &[u8]) -> Result<Vec<InfoRow>, InfoError>
-    requires { length bytes.now ≤ 4194304 }
+    requires { FitsInput bytes.now }
     ensures { Reads result (rows_of bytes.now) }
 {
     let rows = read_rows(alloc, bytes)?;

@@ -1,2 +1,4 @@
 pub mod Parts
 pub mod Decimals
+pub mod First
+pub mod Chunks

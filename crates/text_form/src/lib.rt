@@ -9,7 +9,7 @@ mod numbers;
 mod words;
 
 pub use cut::{LineWords, cut_words};
-pub use lines::{has_form_bytes, lines_make_the_text, next_line};
+pub use lines::{byte_place, has_form_bytes, lines_make_the_text, next_line};
 pub use numbers::{decimal_is_number, number_is_decimal, parse_below, parse_number};
 pub use words::{has_empty_word, next_word, word_at, word_count, words_make_the_line};
 

@@ -4,6 +4,8 @@ ghost use Rattle.std.specs.Prelude.{◌≡◌, ◌<◌, ◌∷◌, [], ℕ, List
 ghost use Rattle.std.specs.List.{join_with_byte};
 ghost use Rattle.text_form.specs.Words.{is_space, words_of, word_at, has_empty_word};
 
+// As a loop of its own it has one counter; within another loop the compiler gives it many.
+#[inline(never)]
 fn space_place(line: &[u8]) -> Option<usize>
     ensures { result ≡ position is_space line.now }
 {

@@ -1,4 +1,4 @@
-use Rattle.std.proofs.Common.{◌≡◌, ◌+◌, ◌≤◌, ℕ, Bool, List, [], length, drop, true, cond, get_or, refl, sym, ap, ◌∙◌, arith}
+use Rattle.std.proofs.Common.{◌≡◌, ◌+◌, length, drop, arith}
 use Rattle.text_form.specs.Cut.{words_left}
 use Rattle.text_form.specs.Words.{words_of}
 use Rattle.text_form.proofs.Parts.{few_words, word_behind, left_behind}

@@ -7,14 +7,14 @@ use Rattle.text_form.proofs.lines.next_line.Goals as goal
 
 pub returns-in-None : goal.returns-in-None
 returns-in-None c =
-    let none = lines_of_none c.args.text.now (sym c.newline_place.ensures ∙ c.in-None.is) in
+    let none = lines_of_none c.args.text.now (sym c.byte_place.ensures ∙ c.in-None.is) in
     record { lines = none.0; tail = none.1; bytes = ap length none.0 }
 
 pub returns-in-Some : goal.returns-in-Some
 returns-in-Some c =
     let text = c.args.text.now in
     let place = c.in-Some.place in
-    let at = sym c.newline_place.ensures ∙ c.in-Some.is in
+    let at = sym c.byte_place.ensures ∙ c.in-Some.is in
     let parts = lines_of_some text place at in
     let rest = behind text c.split_at.result.1.now place c.split_at.ensures.back in
     record {
