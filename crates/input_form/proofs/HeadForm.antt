@@ -1,5 +1,5 @@
 -- What holds of the sizes and the sections that the lines before the body give.
-use Rattle.std.proofs.Common.{◌≡◌, ◌≢◌, ℕ, ◌+◌, ◌-◌, ◌<◌, ◌≤◌, Bool, true, false, not, ◌&&◌, ltb, eqb, List, [], ◌∷◌, ◌++◌, length, is_none, Option, Some, None, unwrap_or, Result, Ok, Err, IfOk, IfSome, ◌⊎◌, inl, inr, refl, sym, subst, arith, ⊎_elim, length-append}
+use Rattle.std.proofs.Common.{◌≡◌, ◌≢◌, ℕ, ◌+◌, ◌-◌, ◌<◌, ◌≤◌, Bool, true, false, not, ◌&&◌, ltb, eqb, List, [], ◌∷◌, ◌++◌, length, is_none, Option, Some, None, unwrap_or, Result, Ok, IfOk, IfSome, ◌⊎◌, inl, inr, refl, sym, subst, arith, ⊎_elim, length-append}
 use Rattle.std.proofs.lemmas.Bool.{and_parts, ltb-true, not-true, eqb-true, eqb-false, cases_lt}
 use Rattle.std.proofs.lemmas.List.{get_or_append_left, length-set, get_or-set_other}
 use Rattle.codetag.specs.TagParts.{TagParts}

@@ -1,5 +1,5 @@
 -- What holds of all that the reader gives, if each line keeps it.
-use Rattle.std.proofs.Common.{◌≡◌, ℕ, ◌+◌, ◌<◌, ◌≤◌, Bool, true, false, cond, not, leb, List, [], ◌∷◌, ◌++◌, length, Result, Ok, IfOk, arith}
+use Rattle.std.proofs.Common.{ℕ, ◌+◌, ◌≤◌, not, leb, List, [], ◌∷◌, ◌++◌, length, Result, Ok, IfOk, arith}
 use Rattle.std.specs.Bool.{⊤}
 use Rattle.std.proofs.lemmas.Bool.{leb-true}
 use Rattle.text_form.specs.Words.{has_empty_word}

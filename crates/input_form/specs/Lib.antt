@@ -5,3 +5,4 @@ pub mod Forms
 pub mod Places
 pub mod Head
 pub mod Reading
+pub mod Worked

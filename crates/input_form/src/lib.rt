@@ -5,6 +5,7 @@
 mod code;
 mod forms;
 mod head;
+mod laws;
 mod line_error;
 mod places;
 mod reading;
@@ -14,6 +15,7 @@ mod words;
 pub use code::{Code, TextError};
 pub use forms::first_line;
 pub use head::{Head, HeadWord, Size, cpus_of, empty_head, head_line, section_form};
+pub use laws::{limits_of_lines_are_these, limits_of_sizes_are_these, limits_of_words_are_these};
 pub use line_error::LineError;
 pub use places::{module_word, tag_word};
 pub use reading::{Reading, read_lines};

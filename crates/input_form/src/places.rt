@@ -1,6 +1,6 @@
 //! Modules and tags, as the lines of the body name them.
 
-ghost use Rattle.std.specs.Prelude.{◌≡◌, ◌==◌, ◌<◌, length, position, IfOk};
+ghost use Rattle.std.specs.Prelude.{◌≡◌, ◌==◌, ◌<◌, length, IfOk};
 ghost use Rattle.std.specs.List.{before_first, after_first};
 ghost use Rattle.tag_section.specs.Section.{section_at};
 ghost use Rattle.input_form.specs.Places.{module_word, tag_word};
@@ -8,7 +8,7 @@ ghost use Rattle.input_form.specs.Places.{module_word, tag_word};
 use crate::code::Code;
 use crate::words::need;
 use tag_section::Sections;
-use text_form::parse_below;
+use text_form::{byte_place, parse_below};
 
 /// The section of a declared module.
 #[tactic(auto, unfolding(crate::specs::Places::module_word))]
@@ -21,18 +21,12 @@ pub fn module_word(sections: &Sections, word: &[u8]) -> Result<u32, Code>
     Ok(section)
 }
 
-fn colon_place(word: &[u8]) -> Option<usize>
-    ensures { result ≡ position (λ b. b == 58) word.now }
-{
-    word.iter().position(|b| *b == b':')
-}
-
 // What stands before the first colon, and what stands behind it.
 fn split_at_colon(word: &[u8]) -> (&[u8], &[u8])
     ensures before { result.0.now ≡ before_first (λ b. b == 58) word.now }
     ensures after { result.1.now ≡ after_first (λ b. b == 58) word.now }
 {
-    match colon_place(word) {
+    match byte_place(word, b':') {
         Some(place) => {
             let (name, rest) = word.split_at(place);
             (name, &rest[1..])
