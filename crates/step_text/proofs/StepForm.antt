@@ -1,5 +1,5 @@
 -- What holds of every schedule that is read.
-use Rattle.std.proofs.Common.{◌≡◌, ℕ, ◌+◌, ◌<◌, ◌≤◌, Bool, true, false, cond, not, eqb, ltb, List, [], ◌∷◌, ◌++◌, length, Result, Ok, Err, IfOk, codes, drop, suc, zero, refl, sym, subst, ⊎_elim, arith, length-append}
+use Rattle.std.proofs.Common.{◌≡◌, ℕ, ◌+◌, ◌<◌, ◌≤◌, Bool, true, false, cond, eqb, ltb, List, [], ◌∷◌, ◌++◌, length, Result, Ok, Err, IfOk, codes, drop, suc, zero, refl, sym, subst, ⊎_elim, arith, length-append}
 use Rattle.std.specs.List.{AllByRecursion}
 use Rattle.std.proofs.lemmas.Bool.{ltb-true, eqb-true, not-false}
 use Rattle.std.proofs.lemmas.List.{map-append}
@@ -7,7 +7,6 @@ use Rattle.std.proofs.lemmas.List.Sums.{sum_by_push}
 use Rattle.std.proofs.lemmas.Result.{IfOk-at_ok}
 use Rattle.text_form.specs.Lines.{lines_of, tail_of}
 use Rattle.text_form.specs.Words.{words_of, word_at}
-use Rattle.input_form.specs.declared.code.Code.{Code}
 use Rattle.input_form.specs.declared.code.Code.TheVariants as code
 use Rattle.input_form.specs.declared.code.TextError.{TextError}
 use Rattle.input_form.specs.declared.head.Head.{Head}

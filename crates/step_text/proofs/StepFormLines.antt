@@ -1,12 +1,8 @@
 -- What holds of the body lines that a schedule's grammar takes.
-use Rattle.std.proofs.Common.{◌≡◌, ℕ, ◌<◌, ◌≤◌, true, false, cond, not, ◌&&◌, ltb, leb, eqb, List, length, Option, Some, None, Ok, codes, IfOk, IfSome, refl, ap, ◌∙◌, arith}
-use Rattle.std.specs.Option.{ok_or, option_and_then}
-use Rattle.std.proofs.lemmas.Bool.{cond_both, and_parts, leb-true, ltb-true, not-true, eqb-false, le-leb, and_from, both_ways}
-use Rattle.tag_section.proofs.Names.{number_found}
-use Rattle.tag_section.specs.Section.{Section, section_at, number_of}
-use Rattle.text_form.specs.Numbers.{number_value, number_in, number_below}
+use Rattle.std.proofs.Common.{◌≡◌, ℕ, ◌<◌, ◌≤◌, true, false, not, eqb, List, length, Option, Some, None, Ok, codes, IfOk, IfSome, refl, ap, ◌∙◌, arith}
+use Rattle.std.proofs.lemmas.Bool.{and_parts, leb-true, not-true, eqb-false, le-leb, and_from, both_ways}
+use Rattle.tag_section.specs.Section.{Section}
 use Rattle.text_form.specs.Words.{words_of, word_at}
-use Rattle.input_form.specs.declared.code.Code.{Code}
 use Rattle.input_form.specs.declared.code.Code.TheVariants as code
 use Rattle.step_text.specs.declared.step_words.OpName.{OpName}
 use Rattle.step_text.specs.declared.step_words.OpName.TheVariants as name
@@ -16,11 +12,11 @@ use Rattle.step_text.specs.declared.steps.StepActor.TheVariants as actor
 use Rattle.step_text.specs.declared.steps.StepOp.{StepOp}
 use Rattle.step_text.specs.declared.steps.StepOp.TheVariants as op
 use Rattle.input_form.specs.Judging.{◌>>=◌}
-use Rattle.input_form.specs.Places.{module_word, tag_word, IsKey, IsTag, IsModule}
+use Rattle.input_form.specs.Places.{module_word, IsKey, IsTag, IsModule}
 use Rattle.step_text.specs.StepForm.{IsStepActor, is_managers_op, IsOwnOp, AreNewKeys, IsStepOp, IsStepAct, is_printing}
 use Rattle.step_text.specs.StepGrammar.{is_managers, belongs, actor_word, new_keys_fit, step_op, do_line, count_word, go_line, words_line, op_words}
 use Rattle.step_text.specs.StepWords.{op_name}
-use Rattle.input_form.specs.Words.{is_word, number_word, cpu_word}
+use Rattle.input_form.specs.Words.{is_word}
 use Rattle.input_form.proofs.Judged.{bound, given, checked, either}
 use Rattle.input_form.proofs.WordForm.{number_word_in, cpu_word_in, module_word_in, tag_word_in}
 

@@ -95,38 +95,26 @@ fn body_line(
     }
 }
 
-// A line, by its words.
-#[tactic(auto, unfolding(crate::specs::StepReading::word_line))]
-fn word_line(
-    alloc: Global,
-    reading: &mut StepReading,
-    number: u32,
-    line: &LineWords<'_>,
-) -> Result<(), LineError>
-    ensures { Leaves result reading.new (word_line number line.now reading.old) }
-{
-    let keyword = step_keyword(line.at(0))?;
-    match keyword {
-        StepKeyword::Head(which) => {
-            let in_body = in_body(reading);
-            head_line(alloc, &mut reading.head, which, in_body, line)
-        }
-        StepKeyword::Body(word) => body_line(reading, word, number, line),
-    }
-}
-
 impl Reading for StepReading {
     ghost says = { word_line };
 
     ghost ends = { ending };
 
+    #[tactic(auto, unfolding(crate::specs::StepReading::word_line))]
     fn read_line(
         &mut self,
         alloc: Global,
         number: u32,
         line: &LineWords<'_>,
     ) -> Result<(), LineError> {
-        word_line(alloc, self, number, line)
+        let keyword = step_keyword(line.at(0))?;
+        match keyword {
+            StepKeyword::Head(which) => {
+                let in_body = in_body(self);
+                head_line(alloc, &mut self.head, which, in_body, line)
+            }
+            StepKeyword::Body(word) => body_line(self, word, number, line),
+        }
     }
 
     fn end(&self) -> Result<(), Code> {

@@ -1,18 +1,13 @@
 use super::*;
 use input_form::{Code, TextError};
 use std::alloc::Global;
+use std::process::Abort;
 use std::test::Fail;
 
-// What is refused. A text that is read shows as line 0.
-fn verdict(alloc: Global, text: &[u8]) -> Option<(u32, Code)> {
-    if text.len() > 4_194_304 {
-        return None;
-    }
-    match read_steps(alloc, text) {
-        Ok(_) => Some((0, Code::Lines)),
-        Err(TextError::Refused { line, code }) => Some((line, code)),
-        Err(TextError::Memory(_)) => None,
-    }
+// Why the text is refused. None where it is read.
+fn refusal(rt: &impl Abort, alloc: Global, text: &[u8]) -> Option<TextError> {
+    assert!(rt; text.len() <= 4_194_304);
+    read_steps(alloc, text).err()
 }
 
 #[test]
@@ -65,19 +60,20 @@ fn a_schedule(rt: HostRuntime) -> Result<(), Fail> {
 
 #[test]
 fn refused_heads(rt: HostRuntime) {
-    let cases: [(&[u8], (u32, Code)); 9] = [
-        (b"", (1, Code::Header)),
-        (b"memprof-steps 1.0", (1, Code::Cut)),
-        (b"memprof-trace 1.1\n", (1, Code::Header)),
-        (b"memprof-steps 1.0\n", (2, Code::Order)),
-        (b"memprof-steps 1.0\nkernel\n", (3, Code::Empty)),
-        (b"memprof-steps 1.0\ncpus 65\n", (2, Code::Number)),
-        (b"memprof-steps 1.0\nframes 8\n", (2, Code::Word)),
-        (b"memprof-steps 1.0\nkernel\nkernel\n", (3, Code::Order)),
-        (b"memprof-steps 1.0\ncpus 1\ncpus\n", (3, Code::Repeat)),
+    let cases: [(&[u8], u32, Code); 9] = [
+        (b"", 1, Code::Header),
+        (b"memprof-steps 1.0", 1, Code::Cut),
+        (b"memprof-trace 1.1\n", 1, Code::Header),
+        (b"memprof-steps 1.0\n", 2, Code::Order),
+        (b"memprof-steps 1.0\nkernel\n", 3, Code::Empty),
+        (b"memprof-steps 1.0\ncpus 65\n", 2, Code::Number),
+        (b"memprof-steps 1.0\nframes 8\n", 2, Code::Word),
+        (b"memprof-steps 1.0\nkernel\nkernel\n", 3, Code::Order),
+        (b"memprof-steps 1.0\ncpus 1\ncpus\n", 3, Code::Repeat),
     ];
-    for (text, wanted) in cases {
-        assert_eq!(rt; verdict(rt.alloc(), text), Some(wanted));
+    for (text, line, code) in cases {
+        let wanted = TextError::Refused { line, code };
+        assert_eq!(rt; refusal(&rt, rt.alloc(), text), Some(wanted));
     }
 }
 
@@ -86,25 +82,25 @@ const HEAD: &[u8] = b"memprof-steps 1.0\nkernel\ntag mm/a.c 10 fa\n";
 
 #[test]
 fn bodies(rt: HostRuntime) -> Result<(), Fail> {
-    let cases: [(&[u8], (u32, Code)); 13] = [
-        (b"do 9 load zzz\n", (4, Code::Cpu)),
-        (b"do 0 load zzz\n", (4, Code::Word)),
-        (b"do m load kernel\n", (4, Code::Module)),
-        (b"do 0 split 3 4 1\n", (4, Code::Keys)),
-        (b"do 0 swap 3 3\n", (4, Code::Same)),
-        (b"do 0 open 1 kernel:1 8\n", (4, Code::Tag)),
-        (b"go 0 1048577\n", (4, Code::Number)),
-        (b"go 0  1\n", (4, Code::Word)),
-        (b"go 0 1 \n", (4, Code::Word)),
-        (b"go 0 1 2 3 4 5 6\n", (4, Code::Word)),
-        (b"cpus 1 2 3 4 5 6 7\n", (4, Code::Order)),
-        (b"tag mm/a.c 11 fa\n", (0, Code::Lines)),
-        (b"# one\n\nprint\ntag mm/a.c 11 fa\n", (7, Code::Order)),
+    let cases: [(&[u8], u32, Code); 12] = [
+        (b"do 9 load zzz\n", 4, Code::Cpu),
+        (b"do 0 load zzz\n", 4, Code::Word),
+        (b"do m load kernel\n", 4, Code::Module),
+        (b"do 0 split 3 4 1\n", 4, Code::Keys),
+        (b"do 0 swap 3 3\n", 4, Code::Same),
+        (b"do 0 open 1 kernel:1 8\n", 4, Code::Tag),
+        (b"go 0 1048577\n", 4, Code::Number),
+        (b"go 0  1\n", 4, Code::Word),
+        (b"go 0 1 \n", 4, Code::Word),
+        (b"go 0 1 2 3 4 5 6\n", 4, Code::Word),
+        (b"cpus 1 2 3 4 5 6 7\n", 4, Code::Order),
+        (b"# one\n\nprint\ntag mm/a.c 11 fa\n", 7, Code::Order),
     ];
-    for (body, wanted) in cases {
+    for (body, line, code) in cases {
         let mut text = Vec::from_slice(rt.alloc(), HEAD)?;
         text.extend_from_slice(body)?;
-        assert_eq!(rt; verdict(rt.alloc(), &text), Some(wanted));
+        let wanted = TextError::Refused { line, code };
+        assert_eq!(rt; refusal(&rt, rt.alloc(), &text), Some(wanted));
     }
     Ok(())
 }
@@ -113,20 +109,36 @@ fn bodies(rt: HostRuntime) -> Result<(), Fail> {
 #[test]
 fn the_most_lines(rt: HostRuntime) -> Result<(), Fail> {
     let mut text = Vec::from_slice(rt.alloc(), HEAD)?;
-    for number in 3..131_072 {
-        text.extend_from_slice(if number < 67 {
+    text.extend_from_slice(b"tag mm/a.c 11 fa\n")?;
+    for number in 4..131_072 {
+        text.extend_from_slice(if number < 68 {
             b"print\n"
         } else {
             b"go m all\n"
         })?;
     }
-    assert_eq!(rt; verdict(rt.alloc(), &text), Some((0, Code::Lines)));
+    assert!(rt; text.len() <= 4_194_304);
+    let steps = read_steps(rt.alloc(), &text)?;
+    assert_eq!(rt; steps.body.as_slice().len(), 131_068);
     text.extend_from_slice(b"print")?;
-    assert_eq!(rt; verdict(rt.alloc(), &text), Some((131_073, Code::Lines)));
+    let lines = TextError::Refused {
+        line: 131_073,
+        code: Code::Lines,
+    };
+    assert_eq!(rt; refusal(&rt, rt.alloc(), &text), Some(lines));
+    Ok(())
+}
+
+#[test]
+fn one_print_too_many(rt: HostRuntime) -> Result<(), Fail> {
     let mut text = Vec::from_slice(rt.alloc(), HEAD)?;
-    for _ in 3..68 {
+    for _ in 0..65 {
         text.extend_from_slice(b"print\n")?;
     }
-    assert_eq!(rt; verdict(rt.alloc(), &text), Some((68, Code::Prints)));
+    let prints = TextError::Refused {
+        line: 68,
+        code: Code::Prints,
+    };
+    assert_eq!(rt; refusal(&rt, rt.alloc(), &text), Some(prints));
     Ok(())
 }

@@ -1,5 +1,5 @@
 -- What holds of every trace that is read.
-use Rattle.std.proofs.Common.{◌≡◌, ℕ, ◌+◌, ◌<◌, ◌≤◌, Bool, true, false, cond, not, ◌||◌, eqb, ltb, List, [], ◌∷◌, ◌++◌, length, map, drop, Option, Some, None, is_some, unwrap_or, Result, Ok, Err, IfOk, IfSome, All, ◌⊎◌, inl, inr, ⊎_elim, refl, sym, ap, ◌∙◌, subst, arith, append_assoc}
+use Rattle.std.proofs.Common.{◌≡◌, ℕ, ◌+◌, ◌<◌, ◌≤◌, Bool, true, false, cond, not, ◌||◌, eqb, ltb, List, [], ◌∷◌, ◌++◌, length, map, drop, Option, Some, None, is_some, Result, Ok, Err, IfOk, All, ◌⊎◌, inl, inr, ⊎_elim, refl, sym, ap, ◌∙◌, subst, arith, append_assoc}
 use Rattle.std.proofs.lemmas.Bool.{false_from_ne_true, eqb-true, ltb-true}
 use Rattle.std.proofs.lemmas.List.{length-append, map-append, append-nil}
 use Rattle.std.proofs.lemmas.List.Concat.{flat_map-append}
@@ -8,7 +8,6 @@ use Rattle.std.proofs.lemmas.List.Sums.{sum_by_push}
 use Rattle.std.proofs.lemmas.Result.{IfOk-at_ok}
 use Rattle.text_form.specs.Lines.{lines_of, tail_of}
 use Rattle.text_form.specs.Words.{words_of, word_at}
-use Rattle.input_form.specs.declared.code.Code.{Code}
 use Rattle.input_form.specs.declared.code.Code.TheVariants as code
 use Rattle.input_form.specs.declared.code.TextError.{TextError}
 use Rattle.input_form.specs.declared.head.Head.{Head}
@@ -18,7 +17,7 @@ use Rattle.input_form.specs.Judging.{at, Reads}
 use Rattle.input_form.specs.Places.{module_word, IsModule}
 use Rattle.input_form.specs.Reading.{judged_lines}
 use Rattle.input_form.proofs.HeadForm.{IsHead, IsBefore, AreClosed, IsHead-empty, section_form_in, head_line_in, cpus_in, area_in, by_default}
-use Rattle.input_form.proofs.Judged.{bound, given, passed, skipped, checked, weaker}
+use Rattle.input_form.proofs.Judged.{bound, given, passed, checked, weaker}
 use Rattle.input_form.proofs.LineForm.{lines_in, rises_more, rises_on, rises_to}
 use Rattle.input_form.proofs.WordForm.{module_word_in}
 use Rattle.trace.specs.declared.trace_reading.TraceReading.{TraceReading}
@@ -32,7 +31,7 @@ use Rattle.trace.specs.declared.traces.OnOp.{OnOp}
 use Rattle.trace.specs.declared.traces.Trace.{Trace}
 use Rattle.trace.specs.Formed.{IsFormedOn, IsFormedItem, IsFormedTrace, numbers_in, numbers_of, is_printing, prints_of}
 use Rattle.trace.specs.TraceGrammar.{on_line}
-use Rattle.trace.specs.TraceReading.{empty_reading, closed, with_item, with_print, with_round, op_more, with_op, in_body, print_line, body_words, body_line, keyword_line, word_line, ending, trace_header, trace_from, trace_of}
+use Rattle.trace.specs.TraceReading.{empty_reading, closed, with_item, with_round, op_more, with_op, in_body, print_line, body_words, body_line, keyword_line, word_line, ending, trace_header, trace_from, trace_of}
 use Rattle.trace.specs.TraceWords.{trace_keyword}
 use Rattle.trace.proofs.OpForm.{on_line_in}
 

@@ -1,17 +1,12 @@
 use super::*;
 use std::alloc::Global;
+use std::process::Abort;
 use std::test::Fail;
 
-// What is refused. A text that is read shows as line 0.
-fn verdict(alloc: Global, text: &[u8]) -> Option<(u32, Code)> {
-    if text.len() > 4_194_304 {
-        return None;
-    }
-    match read_trace(alloc, text) {
-        Ok(_) => Some((0, Code::Lines)),
-        Err(TextError::Refused { line, code }) => Some((line, code)),
-        Err(TextError::Memory(_)) => None,
-    }
+// Why the text is refused. None where it is read.
+fn refusal(rt: &impl Abort, alloc: Global, text: &[u8]) -> Option<TextError> {
+    assert!(rt; text.len() <= 4_194_304);
+    read_trace(alloc, text).err()
 }
 
 #[test]
@@ -57,12 +52,13 @@ fn a_trace(rt: HostRuntime) -> Result<(), Fail> {
 
 #[test]
 fn refused_heads(rt: HostRuntime) {
-    let cases: [(&[u8], (u32, Code)); 2] = [
-        (b"memprof-trace 1.2\n", (1, Code::Header)),
-        (b"memprof-trace 1.0\nmemprof-trace 1.0\n", (2, Code::Word)),
+    let cases: [(&[u8], u32, Code); 2] = [
+        (b"memprof-trace 1.2\n", 1, Code::Header),
+        (b"memprof-trace 1.0\nmemprof-trace 1.0\n", 2, Code::Word),
     ];
-    for (text, wanted) in cases {
-        assert_eq!(rt; verdict(rt.alloc(), text), Some(wanted));
+    for (text, line, code) in cases {
+        let wanted = TextError::Refused { line, code };
+        assert_eq!(rt; refusal(&rt, rt.alloc(), text), Some(wanted));
     }
 }
 
@@ -71,39 +67,41 @@ const HEAD: &[u8] = b"memprof-trace 1.0\nkernel\ntag mm/slub.c 1 slab\n";
 
 #[test]
 fn bodies(rt: HostRuntime) -> Result<(), Fail> {
-    let cases: [(&[u8], (u32, Code)); 9] = [
-        (b"on 9\n", (4, Code::NoRound)),
-        (b"round\non 9 free\n", (5, Code::Word)),
-        (b"round\nprint\non 0 free 1\n", (6, Code::NoRound)),
-        (b"round\non 4 swap 2 2\n", (5, Code::Cpu)),
-        (b"round\non 3 swap 2 2\n", (5, Code::Same)),
-        (b"load kernel\n", (4, Code::Module)),
-        (b"round\n\non 0 page 65535 10\n", (0, Code::Lines)),
-        (b"round\non 0 page 1 11\n", (5, Code::Number)),
-        (b"round\ntag mm/slub.c 2 slab\n", (5, Code::Order)),
+    let cases: [(&[u8], u32, Code); 8] = [
+        (b"on 9\n", 4, Code::NoRound),
+        (b"round\non 9 free\n", 5, Code::Word),
+        (b"round\nprint\non 0 free 1\n", 6, Code::NoRound),
+        (b"round\non 4 swap 2 2\n", 5, Code::Cpu),
+        (b"round\non 3 swap 2 2\n", 5, Code::Same),
+        (b"load kernel\n", 4, Code::Module),
+        (b"round\non 0 page 1 11\n", 5, Code::Number),
+        (b"round\ntag mm/slub.c 2 slab\n", 5, Code::Order),
     ];
-    for (body, wanted) in cases {
+    for (body, line, code) in cases {
         let mut text = Vec::from_slice(rt.alloc(), HEAD)?;
         text.extend_from_slice(body)?;
-        assert_eq!(rt; verdict(rt.alloc(), &text), Some(wanted));
+        let wanted = TextError::Refused { line, code };
+        assert_eq!(rt; refusal(&rt, rt.alloc(), &text), Some(wanted));
     }
     Ok(())
 }
 
-// As many lines as an input may have, and one more. Of these, 64 print.
+// Of the lines that print, of either kind, an input has 64 at most.
 #[test]
-fn the_most_lines(rt: HostRuntime) -> Result<(), Fail> {
+fn the_most_prints(rt: HostRuntime) -> Result<(), Fail> {
     let mut text = Vec::from_slice(rt.alloc(), HEAD)?;
-    for number in 3..131_072 {
-        text.extend_from_slice(if number < 67 { b"print\n" } else { b"round\n" })?;
+    text.extend_from_slice(b"round\n\non 0 page 65535 10\n")?;
+    for _ in 0..32 {
+        text.extend_from_slice(b"print\nareas\n")?;
     }
-    assert_eq!(rt; verdict(rt.alloc(), &text), Some((0, Code::Lines)));
-    text.extend_from_slice(b"print")?;
-    assert_eq!(rt; verdict(rt.alloc(), &text), Some((131_073, Code::Lines)));
-    let mut text = Vec::from_slice(rt.alloc(), HEAD)?;
-    for _ in 3..68 {
-        text.extend_from_slice(b"print\n")?;
-    }
-    assert_eq!(rt; verdict(rt.alloc(), &text), Some((68, Code::Prints)));
+    assert!(rt; text.len() <= 4_194_304);
+    let trace = read_trace(rt.alloc(), &text)?;
+    assert_eq!(rt; trace.body.as_slice().len(), 65);
+    text.extend_from_slice(b"areas\n")?;
+    let prints = TextError::Refused {
+        line: 71,
+        code: Code::Prints,
+    };
+    assert_eq!(rt; refusal(&rt, rt.alloc(), &text), Some(prints));
     Ok(())
 }

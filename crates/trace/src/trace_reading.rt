@@ -141,38 +141,26 @@ fn body_line(
     }
 }
 
-// A line, by its words.
-#[tactic(auto, unfolding(crate::specs::TraceReading::word_line))]
-fn word_line(
-    alloc: Global,
-    reading: &mut TraceReading,
-    number: u32,
-    line: &LineWords<'_>,
-) -> Result<(), LineError>
-    ensures { Leaves result reading.new (word_line number line.now reading.old) }
-{
-    let keyword = trace_keyword(line.at(0))?;
-    match keyword {
-        TraceKeyword::Head(which) => {
-            let in_body = in_body(reading);
-            head_line(alloc, &mut reading.head, which, in_body, line)
-        }
-        TraceKeyword::Body(word) => body_line(alloc, reading, word, number, line),
-    }
-}
-
 impl Reading for TraceReading {
     ghost says = { word_line };
 
     ghost ends = { ending };
 
+    #[tactic(auto, unfolding(crate::specs::TraceReading::word_line))]
     fn read_line(
         &mut self,
         alloc: Global,
         number: u32,
         line: &LineWords<'_>,
     ) -> Result<(), LineError> {
-        word_line(alloc, self, number, line)
+        let keyword = trace_keyword(line.at(0))?;
+        match keyword {
+            TraceKeyword::Head(which) => {
+                let in_body = in_body(self);
+                head_line(alloc, &mut self.head, which, in_body, line)
+            }
+            TraceKeyword::Body(word) => body_line(alloc, self, word, number, line),
+        }
     }
 
     fn end(&self) -> Result<(), Code> {
