@@ -53,6 +53,10 @@ order_not_below = Round (on 1 0 (Page 1 1) ∷ on 2 0 (Split 1 1 2) ∷ []) ∷ 
 abbrev pub keys_past_the_last : List Item
 keys_past_the_last = Round (on 1 0 (Page 1 2) ∷ on 2 0 (Split 1 0 65534) ∷ []) ∷ []
 
+-- `split 1 0 65533`: the last of three new keys is 65,535
+abbrev pub keys_to_the_last : List Item
+keys_to_the_last = Round (on 1 0 (Page 1 2) ∷ on 2 0 (Split 1 0 65533) ∷ []) ∷ []
+
 -- `split 1 0 2` on CPU 0: its new key 2 is bound, and CPU 1 has named its new key 4
 abbrev pub new_bound_and_shared : List Item
 new_bound_and_shared = Round (on 1 0 (Page 2 0) ∷ []) ∷ Round (on 2 1 (Page 4 0) ∷ on 3 0 (Page 1 2) ∷ on 4 0 (Split 1 0 2) ∷ []) ∷ []
@@ -136,6 +140,14 @@ both_trimmed = Round (on 1 0 (Page 1 1) ∷ on 2 0 (Page 2 1) ∷ on 3 0 (Trim 1
 -- `page 1 0` on CPU 1: CPU 0 has named the key, which is bound
 abbrev pub shared_and_bound : List Item
 shared_and_bound = Round (on 1 0 (Page 1 0) ∷ on 2 1 (Page 1 0) ∷ []) ∷ []
+
+-- `split 1 0 2` on CPU 1: CPU 0 has named the key, and has freed it
+abbrev pub split_of_shared_and_unbound : List Item
+split_of_shared_and_unbound = Round (on 1 0 (Page 1 1) ∷ on 2 0 (Free 1) ∷ on 3 1 (Split 1 0 2) ∷ []) ∷ []
+
+-- `trim 1 1` on CPU 1: the same
+abbrev pub trim_of_shared_and_unbound : List Item
+trim_of_shared_and_unbound = Round (on 1 0 (Page 1 1) ∷ on 2 0 (Free 1) ∷ on 3 1 (Trim 1 1) ∷ []) ∷ []
 
 -- `free 1` on CPU 1: CPU 0 has named the key two lines before
 abbrev pub shared_two_lines_before : List Item

@@ -1,10 +1,10 @@
 //! What each key names.
 
-ghost use Rattle.std.specs.Prelude.{◌≡◌, ◌<◌, slice_set, slice_index_or, vec_len, IfOk};
-ghost use Rattle.round_check.specs.Tables.{unbound, unbound_keys};
+ghost use Rattle.std.specs.Prelude.{◌≡◌, IfOk};
+ghost use Rattle.round_check.specs.Tables.{unbound_keys};
 
+use crate::table::Table;
 use std::alloc::{AllocError, Global};
-use std::marker::Model;
 
 /// A block, with so many pages of its accounted size left.
 #[derive(Clone, Copy, Debug, PartialEq, Eq)]
@@ -40,59 +40,19 @@ pub struct Turn {
 pub(crate) const KEY_COUNT: usize = 65_536;
 
 /// The states of all keys, by key.
-#[derive(Debug, Drop)]
-pub struct KeyTable {
-    keys: Vec<KeyState>,
-}
+pub type KeyTable = Table<KeyState, KEY_COUNT>;
 
-impl Model for KeyTable {
-    ghost use Rattle.std.specs.Prelude.{◌≡◌, List, vec_len};
-    ghost use Rattle.round_check.specs.declared.keys.KeyState.{KeyState};
-
-    ghost Value = { List KeyState };
-
-    ghost view = { λ table. table.keys.items };
-
-    ghost invariant = { λ table. vec_len table.keys ≡ 65536 };
-}
-
+/// No key is bound.
 #[tactic(auto, unfolding(crate::specs::Tables::unbound_keys))]
-fn unbound_keys(alloc: Global, count: usize) -> Result<Vec<KeyState>, AllocError>
-    ensures items { IfOk result (λ keys. keys.items ≡ unbound_keys count) }
-    ensures len { IfOk result (λ keys. vec_len keys ≡ count) }
+pub(crate) fn unbound_keys(alloc: Global) -> Result<KeyTable, AllocError>
+    ensures { IfOk result (λ keys. keys ≡ unbound_keys 65536) }
 {
-    let mut keys = Vec::new(alloc);
-    for _ in 0..count {
-        keys.push(KeyState {
+    Table::of(
+        alloc,
+        KeyState {
             bound: None,
             round: 0,
             cpu: 0,
-        })?;
-    }
-    Ok(keys)
-}
-
-impl KeyTable {
-    /// No key is bound.
-    pub(crate) fn new(alloc: Global) -> Result<KeyTable, AllocError>
-        ensures { IfOk result (λ table. table ≡ unbound_keys 65536) }
-    {
-        Ok(KeyTable {
-            keys: unbound_keys(alloc, KEY_COUNT)?,
-        })
-    }
-
-    pub(crate) fn at(&self, key: u32) -> KeyState
-        requires { key < 65536 }
-        ensures { result ≡ slice_index_or self.now key unbound }
-    {
-        self.keys[key as usize]
-    }
-
-    pub(crate) fn set(&mut self, key: u32, state: KeyState)
-        requires { key < 65536 }
-        ensures { self.new ≡ slice_set self.old key state }
-    {
-        self.keys[key as usize] = state;
-    }
+        },
+    )
 }

@@ -1,16 +1,18 @@
 //! What a checked trace's rounds do not do.
 
-ghost use Rattle.std.specs.Prelude.{◌≡◌, ◌≢◌, ℕ, List, true, Ok, Err, IsSome};
+ghost use Rattle.std.specs.Prelude.{◌≡◌, ◌≢◌, ◌<◌, ◌+◌, ◌-◌, ℕ, List, true, Ok, Err, IsSome};
 ghost use Rattle.input_form.specs.declared.code.Code.TheVariants as code;
 ghost use Rattle.trace.specs.declared.traces.OnOp.{OnOp};
 ghost use Rattle.trace.specs.declared.traces.Trace.{Trace};
 ghost use Rattle.trace.specs.declared.traces.TraceOp.TheVariants as op;
 ghost use Rattle.trace.specs.Formed.{IsFormedTrace};
 ghost use Rattle.round_check.specs.declared.walk.Walk.{Walk};
-ghost use Rattle.round_check.specs.Keys.{key_at};
+ghost use Rattle.round_check.specs.declared.keys.KeyState.{KeyState};
+ghost use Rattle.round_check.specs.declared.keys.Turn.{Turn};
+ghost use Rattle.round_check.specs.Keys.{key_at, part_keys};
 ghost use Rattle.round_check.specs.Rounds.{names_key, IsRound, IsLine};
-ghost use Rattle.round_check.specs.Rows.{verdict, shared_and_unbound, object_and_unbound, trimmed_and_object, orders_and_trimmed, orders_differ, order_not_below, keys_past_the_last, new_bound_and_shared, two_new_bound, split_onto_itself, pages_not_below, entered_and_busy, unloaded_and_absent, never_loaded, entered_twice, left_while_hooked, two_inside, hooked_too_deep, outside_and_deep, unhooked_twice, loaded_twice};
-ghost use Rattle.round_check.specs.Rows.{both_shared, unbound_and_shared, both_unbound, both_objects, both_trimmed, shared_and_bound, shared_two_lines_before, freed_in_the_next_round, trimmed_and_not_below, unloaded_and_outside, unloaded_twice};
+ghost use Rattle.round_check.specs.Rows.{verdict, shared_and_unbound, object_and_unbound, trimmed_and_object, orders_and_trimmed, orders_differ, order_not_below, keys_past_the_last, keys_to_the_last, new_bound_and_shared, two_new_bound, split_onto_itself, pages_not_below, entered_and_busy, unloaded_and_absent, never_loaded, entered_twice, left_while_hooked, two_inside, hooked_too_deep, outside_and_deep, unhooked_twice, loaded_twice};
+ghost use Rattle.round_check.specs.Rows.{both_shared, unbound_and_shared, both_unbound, both_objects, both_trimmed, shared_and_bound, split_of_shared_and_unbound, trim_of_shared_and_unbound, shared_two_lines_before, freed_in_the_next_round, trimmed_and_not_below, unloaded_and_outside, unloaded_twice};
 ghost use Rattle.round_check.specs.Walk.{rounds_of};
 
 /// In a round of a checked trace no two CPUs name one key, a key that is freed was bound, and a module that is
@@ -35,6 +37,7 @@ pub fn refusals_in_order()
     ensures orders { verdict orders_differ ≡ Err (3, code.Orders) }
     ensures orders_of_split { verdict order_not_below ≡ Err (2, code.Orders) }
     ensures keys { verdict keys_past_the_last ≡ Err (2, code.Keys) }
+    ensures keys_to_the_last { verdict keys_to_the_last ≡ Ok tt }
     ensures shared_new { verdict new_bound_and_shared ≡ Err (4, code.SharedKey 4) }
     ensures bound { verdict two_new_bound ≡ Err (4, code.Bound 3) }
     ensures bound_itself { verdict split_onto_itself ≡ Err (2, code.Bound 1) }
@@ -59,9 +62,12 @@ pub fn refusals_of_a_line_in_order()
     ensures kind_first { verdict both_objects ≡ Err (3, code.Kind 1) }
     ensures trimmed_first { verdict both_trimmed ≡ Err (5, code.Trimmed 1) }
     ensures shared_before_bound { verdict shared_and_bound ≡ Err (2, code.SharedKey 1) }
+    ensures shared_before_split { verdict split_of_shared_and_unbound ≡ Err (3, code.SharedKey 1) }
+    ensures shared_before_trim { verdict trim_of_shared_and_unbound ≡ Err (3, code.SharedKey 1) }
     ensures shared_after_others { verdict shared_two_lines_before ≡ Err (3, code.SharedKey 1) }
     ensures next_round { verdict freed_in_the_next_round ≡ Ok tt }
     ensures trimmed_before_orders { verdict trimmed_and_not_below ≡ Err (3, code.Trimmed 1) }
     ensures unload_before_leave { verdict unloaded_and_outside ≡ Err (3, code.UnloadShared 1) }
     ensures unload_again { verdict unloaded_twice ≡ Err (3, code.UnloadShared 1) }
+    ensures past_the_last { (keys : List KeyState) (turn : Turn) (key order first count : ℕ) → 65535 < first + count - 1 → part_keys keys turn key order first count ≡ Err code.Keys }
 {}

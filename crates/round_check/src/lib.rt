@@ -6,6 +6,7 @@ mod key_checks;
 mod keys;
 mod laws;
 mod modules;
+mod table;
 mod walk;
 
 pub use laws::{refusals_in_order, refusals_of_a_line_in_order, rounds_that_passed};

@@ -8,8 +8,8 @@ ghost use Rattle.round_check.specs.Walk.{start, moved, enter_module, leave_modul
 
 use crate::cpus::CpuTable;
 use crate::key_checks::{give_key, pages_of, split_key, swap_keys, take_key, trim_key};
-use crate::keys::{Block, Bound, KeyTable, Turn};
-use crate::modules::ModuleTable;
+use crate::keys::{Block, Bound, KeyTable, Turn, unbound_keys};
+use crate::modules::{ModuleTable, absent_modules};
 use input_form::{Code, LineError, TextError, error_at, need};
 use std::alloc::{AllocError, Global};
 use trace::{Item, OnOp, Trace, TraceOp};
@@ -30,8 +30,8 @@ fn start(alloc: Global) -> Result<Walk, AllocError>
     ensures { IfOk result (λ walk. walk ≡ start) }
 {
     Ok(Walk {
-        keys: KeyTable::new(alloc)?,
-        modules: ModuleTable::new(alloc)?,
+        keys: unbound_keys(alloc)?,
+        modules: absent_modules(alloc)?,
         cpus: CpuTable::new(alloc)?,
         round: 0,
     })

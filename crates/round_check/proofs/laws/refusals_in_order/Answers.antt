@@ -31,6 +31,10 @@ pub returns-clause-keys : goal.returns-clause-keys
 unfolding own_key bound_key free_key take_key give_key part_keys split_key swap_keys trim_key enter_module leave_module unload_module hook_tag unhook_tag load_module walk_op walk_item
 returns-clause-keys c = refl
 
+pub returns-clause-keys_to_the_last : goal.returns-clause-keys_to_the_last
+unfolding own_key bound_key free_key take_key give_key part_keys split_key swap_keys trim_key enter_module leave_module unload_module hook_tag unhook_tag load_module walk_op walk_item
+returns-clause-keys_to_the_last c = refl
+
 pub returns-clause-shared_new : goal.returns-clause-shared_new
 unfolding own_key bound_key free_key take_key give_key part_keys split_key swap_keys trim_key enter_module leave_module unload_module hook_tag unhook_tag load_module walk_op walk_item
 returns-clause-shared_new c = refl

@@ -1,4 +1,5 @@
-use Rattle.std.proofs.Common.{refl}
+use Rattle.std.proofs.Common.{◌≡◌, ◌+◌, ◌-◌, nat_le, false, refl, arith}
+use Rattle.std.proofs.lemmas.Bool.Decides.{nat_tests}
 use Rattle.round_check.proofs.laws.refusals_of_a_line_in_order.Goals as goal
 use Rattle.round_check.specs.Keys.{own_key, bound_key, free_key, take_key, give_key, part_keys, split_key, swap_keys, trim_key}
 use Rattle.round_check.specs.Walk.{enter_module, leave_module, unload_module, hook_tag, unhook_tag, load_module, walk_op, walk_item}
@@ -46,3 +47,17 @@ returns-clause-unload_before_leave c = refl
 pub returns-clause-unload_again : goal.returns-clause-unload_again
 unfolding own_key bound_key free_key take_key give_key part_keys split_key swap_keys trim_key enter_module leave_module unload_module hook_tag unhook_tag load_module walk_op walk_item
 returns-clause-unload_again c = refl
+
+pub returns-clause-shared_before_split : goal.returns-clause-shared_before_split
+unfolding own_key bound_key free_key take_key give_key part_keys split_key swap_keys trim_key enter_module leave_module unload_module hook_tag unhook_tag load_module walk_op walk_item
+returns-clause-shared_before_split c = refl
+
+pub returns-clause-shared_before_trim : goal.returns-clause-shared_before_trim
+unfolding own_key bound_key free_key take_key give_key part_keys split_key swap_keys trim_key enter_module leave_module unload_module hook_tag unhook_tag load_module walk_op walk_item
+returns-clause-shared_before_trim c = refl
+
+pub returns-clause-past_the_last : goal.returns-clause-past_the_last
+unfolding part_keys
+returns-clause-past_the_last c = λ keys turn key order first count past.
+    let test : nat_le (first + count - 1) 65535 ≡ false = grind (arith, nat_tests) in
+    rw (test) (refl)
