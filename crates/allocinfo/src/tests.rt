@@ -43,61 +43,13 @@ fn writes_lines(rt: HostRuntime) -> Result<(), Fail> {
     assert_eq!(rt; out.as_slice(), HEADER);
 
     let mut out = Vec::new(rt.alloc());
-    write_line(
-        &sections,
-        Row {
-            bytes: 4096,
-            calls: 1,
-            section: 0,
-            index: 0,
-            kept: false,
-        },
-        &mut out,
-    )?;
-    write_line(
-        &sections,
-        Row {
-            bytes: 0,
-            calls: 0,
-            section: 1,
-            index: 0,
-            kept: false,
-        },
-        &mut out,
-    )?;
-    write_line(
-        &sections,
-        Row {
-            bytes: 2048,
-            calls: 1,
-            section: 1,
-            index: 0,
-            kept: true,
-        },
-        &mut out,
-    )?;
-    write_line(
-        &sections,
-        Row {
-            bytes: u64::MAX,
-            calls: u64::MAX,
-            section: 0,
-            index: 1,
-            kept: false,
-        },
-        &mut out,
-    )?;
-    write_line(
-        &sections,
-        Row {
-            bytes: 1 << 63,
-            calls: 123,
-            section: 0,
-            index: 1,
-            kept: false,
-        },
-        &mut out,
-    )?;
+    write_line(&sections, row(4096, 1, 0, 0), &mut out)?;
+    write_line(&sections, row(0, 0, 1, 0), &mut out)?;
+    let mut kept = row(2048, 1, 1, 0);
+    kept.kept = true;
+    write_line(&sections, kept, &mut out)?;
+    write_line(&sections, row(u64::MAX, u64::MAX, 0, 1), &mut out)?;
+    write_line(&sections, row(1 << 63, 123, 0, 1), &mut out)?;
     let lines =
         b"        4096        1 mm/a.c:10 func:fa \n           0        0 fs/ext4/a.c:11 [ext4] func:ext4_a \n        2048        1 fs/ext4/a.c:11 [ext4:kept] func:ext4_a \n          -1 18446744073709551615 mm/b.c:20 func:fb \n-9223372036854775808      123 mm/b.c:20 func:fb \n";
     assert_eq!(rt; out.as_slice(), lines.as_slice());
