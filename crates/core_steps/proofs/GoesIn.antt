@@ -8,7 +8,11 @@ use Rattle.std.proofs.lemmas.Option.{none-some, same_Some}
 use Rattle.tag_model.specs.declared.shape.Shape.{Shape}
 use Rattle.tag_model.specs.declared.state.Run.{Run}
 use Rattle.tag_model.specs.Laws.{Safe}
-use Rattle.tag_model.specs.StepRules.{GivesRun, StepsWith, TakesRun, enters_cpu, leaves_cpu}
+use Rattle.tag_model.specs.declared.state.Sweep.{Sweep}
+use Rattle.tag_model.specs.declared.state.Sweep.TheVariants as sweep
+use Rattle.tag_model.specs.StepRules.{GivesRun, TakesRun}
+use Rattle.core_steps.specs.Kinds.{StepKind}
+use Rattle.core_steps.proofs.ByKind.{GoesBy, goes_with}
 use Rattle.tag_model.specs.Reference.{is_settled}
 use Rattle.tag_model.proofs.Steps.{safe-steps_with}
 use Rattle.module_area.specs.declared.entry.Entry.{Entry}
@@ -88,8 +92,8 @@ inside_other ms cpu section o list j apart = get_or-set_other ms.inside cpu j (s
 
 -- the CPU has its run from the list, on which it was on its way
 in_by : (s : CoreState) → IsCore s → (cpu : ℕ) → cpu < s.shape.cpus → (section : ℕ) → section < length s.sections → (e : Entry) → loaded_entry section s.modules.list ≡ Some e → run_at (inside_at s.modules cpu) section ≡ None
-    → (reads : ℕ) → StepsWith s.shape (state_after reads s) (state_of reads s.machine s.words (goes_in s.modules cpu section (Some e)))
-in_by s core cpu below section within e is none reads =
+    → (reads : ℕ) (after : Sweep) → GoesBy s.shape StepKind.Enter after (state_after reads s) (state_of reads s.machine s.words (goes_in s.modules cpu section (Some e)))
+in_by s core cpu below section within e is none reads sweep_after =
     let ms = s.modules in
     let m = s.machine in
     let loaded = loaded_is section ms.list e core.modules.list.book is in
@@ -109,7 +113,7 @@ in_by s core cpu below section within e is none reads =
       cpu = ap (own_part m s.words cpu) here;
       list = refl;
     } in
-    enters_cpu (record {
+    GoesBy.enters_cpu (record {
       mid = state_with reads (run_of e ∷ []) m s.words (runs_of ms) list;
       outside = own_part m s.words cpu (runs_of ms cpu);
       inside = own_part m s.words cpu (runs_of new cpu);
@@ -122,24 +126,24 @@ in_by s core cpu below section within e is none reads =
       gives_state = own_becomes reads m s.words cpu (omega (arith, core.machine.hands, core.words)) (omega (arith, core.machine.hands)) (runs_of ms) (runs_of new) (run_of e ∷ []) [] list
           (λ j apart. ap runs_in (inside_other ms cpu section (Some (run_of e)) list j apart));
       same_run = enters_run ms.list reads e.id e [] core.modules.list loaded.by_id loaded.loaded;
-    })
+    }) refl
 
 -- a CPU goes in
 pub goes_in_row : (s : CoreState) → IsCore s → (cpu : ℕ) → cpu < s.shape.cpus → (section : ℕ) → section < length s.sections → enter_refusal (scene_at s.modules cpu) section ≡ None
-    → (reads : ℕ) → StepsWith s.shape (state_of reads s.machine s.words s.modules) (state_of reads s.machine s.words (modules_after (GoIn section) s.modules cpu))
-goes_in_row s core cpu below section within free reads =
+    → (reads : ℕ) (after : Sweep) → GoesBy s.shape StepKind.Enter after (state_of reads s.machine s.words s.modules) (state_of reads s.machine s.words (modules_after (GoIn section) s.modules cpu))
+goes_in_row s core cpu below section within free reads after =
     let may = may_enter s.modules cpu section free in
-    subst (λ (o : Option Entry). StepsWith s.shape (state_after reads s) (state_of reads s.machine s.words (goes_in s.modules cpu section o))) (sym may.is) (in_by s core cpu below section within may.entry may.is may.outside reads)
+    subst (λ (o : Option Entry). GoesBy s.shape StepKind.Enter after (state_after reads s) (state_of reads s.machine s.words (goes_in s.modules cpu section o))) (sym may.is) (in_by s core cpu below section within may.entry may.is may.outside reads after)
 
 pub goes_in_safe : (s : CoreState) → IsCore s → (cpu : ℕ) → cpu < s.shape.cpus → (section : ℕ) → section < length s.sections → enter_refusal (scene_at s.modules cpu) section ≡ None
     → (reads : ℕ) → Safe s.shape (state_of reads s.machine s.words (modules_after (GoIn section) s.modules cpu))
 goes_in_safe s core cpu below section within free reads =
-    safe-steps_with s.shape (state_after reads s) _ core.shape (goes_in_row s core cpu below section within free reads) (safe_after s core reads)
+    safe-steps_with s.shape (state_after reads s) _ core.shape (goes_with s.shape StepKind.Enter sweep.None _ _ (goes_in_row s core cpu below section within free reads sweep.None)) (safe_after s core reads)
 
 -- the CPU's run is on its way to the list, and ends there
 out_by : (s : CoreState) → IsCore s → (cpu : ℕ) → cpu < s.shape.cpus → (section : ℕ) → section < length s.sections → (r : Run) → run_at (inside_at s.modules cpu) section ≡ Some r → hand_at s.machine cpu ≡ None
-    → (reads : ℕ) → StepsWith s.shape (state_after reads s) (state_of reads s.machine s.words (goes_out s.modules cpu section (Some r)))
-out_by s core cpu below section within r is free reads =
+    → (reads : ℕ) (after : Sweep) → GoesBy s.shape StepKind.Leave after (state_after reads s) (state_of reads s.machine s.words (goes_out s.modules cpu section (Some r)))
+out_by s core cpu below section within r is free reads sweep_after =
     let ms = s.modules in
     let m = s.machine in
     let own = run_entry s core cpu below section r is in
@@ -156,7 +160,7 @@ out_by s core cpu below section within r is free reads =
       cpu = ap (own_part m s.words cpu) here;
       list = refl;
     } in
-    leaves_cpu (record {
+    GoesBy.leaves_cpu (record {
       mid = state_with reads (r ∷ []) m s.words (runs_of new) ms.list;
       inside = own_part m s.words cpu (runs_of ms cpu);
       outside = own_part m s.words cpu (runs_of new cpu);
@@ -169,19 +173,19 @@ out_by s core cpu below section within r is free reads =
       leaves = row-leaves ms.list reads r.id own.entry r [] [] core.modules.list own.is (sym own.run);
       leaves_state = list_becomes reads m s.words (runs_of new) (r ∷ []) [] ms.list list.area;
       same_run = leaves_run ms.list reads r.id own.entry r [] [] core.modules.list own.is (sym own.run);
-    })
+    }) refl
 
 -- a CPU goes out
 pub goes_out_row : (s : CoreState) → IsCore s → (cpu : ℕ) → cpu < s.shape.cpus → (section : ℕ) → section < length s.sections → leave_refusal (scene_at s.modules cpu) section ≡ None → hand_at s.machine cpu ≡ None
-    → (reads : ℕ) → StepsWith s.shape (state_of reads s.machine s.words s.modules) (state_of reads s.machine s.words (modules_after (GoOut section) s.modules cpu))
-goes_out_row s core cpu below section within may_go free reads =
+    → (reads : ℕ) (after : Sweep) → GoesBy s.shape StepKind.Leave after (state_of reads s.machine s.words s.modules) (state_of reads s.machine s.words (modules_after (GoOut section) s.modules cpu))
+goes_out_row s core cpu below section within may_go free reads after =
     let may = may_leave s.modules cpu section may_go in
-    subst (λ (o : Option Run). StepsWith s.shape (state_after reads s) (state_of reads s.machine s.words (goes_out s.modules cpu section o))) (sym may.is) (out_by s core cpu below section within may.run may.is free reads)
+    subst (λ (o : Option Run). GoesBy s.shape StepKind.Leave after (state_after reads s) (state_of reads s.machine s.words (goes_out s.modules cpu section o))) (sym may.is) (out_by s core cpu below section within may.run may.is free reads after)
 
 pub goes_out_safe : (s : CoreState) → IsCore s → (cpu : ℕ) → cpu < s.shape.cpus → (section : ℕ) → section < length s.sections → leave_refusal (scene_at s.modules cpu) section ≡ None → hand_at s.machine cpu ≡ None
     → (reads : ℕ) → Safe s.shape (state_of reads s.machine s.words (modules_after (GoOut section) s.modules cpu))
 goes_out_safe s core cpu below section within may_go free reads =
-    safe-steps_with s.shape (state_after reads s) _ core.shape (goes_out_row s core cpu below section within may_go free reads) (safe_after s core reads)
+    safe-steps_with s.shape (state_after reads s) _ core.shape (goes_with s.shape StepKind.Leave sweep.None _ _ (goes_out_row s core cpu below section within may_go free reads sweep.None)) (safe_after s core reads)
 
 -- ---- the modules stay in their bounds
 

@@ -1,10 +1,13 @@
 -- A core stays a core: what a step of a CPU leaves of the whole machine.
-use Rattle.std.proofs.Common.{◌≡◌, ◌≢◌, ℕ, ◌+◌, ◌-◌, ◌*◌, ◌<◌, ◌≤◌, ◌==◌, nat_lt, cond, Bool, List, [], ◌∷◌, ◌++◌, length, get_or, set, refl, sym, ap, ◌∙◌, subst, arith, Option, Some, None, true, false, inl, inr, Result, Ok, Err, OnOk, MatchOption, IsOkAnd}
+use Rattle.std.proofs.Common.{◌≡◌, ◌≢◌, ℕ, ◌+◌, ◌-◌, ◌*◌, ◌<◌, ◌≤◌, ◌==◌, nat_lt, cond, Bool, List, [], ◌∷◌, ◌++◌, length, get_or, set, refl, sym, ap, ◌∙◌, subst, arith, Option, Some, None, true, false, inl, inr, Result, Ok, Err, OnOk, MatchOption, IsOkAnd, IsSomeAnd}
 use Rattle.std.proofs.lemmas.Option.{same_Some}
 use Rattle.module_ops.specs.declared.event.Event.{Event}
 use Rattle.cpu_ops.specs.declared.refused.StepRefused.{StepRefused}
 use Rattle.tag_model.specs.StepRules.{StepsWith}
-use Rattle.tag_model.specs.StepRules.StepsWith.{alone}
+use Rattle.tag_model.specs.declared.state.Sweep.{Sweep}
+use Rattle.tag_model.specs.declared.state.Sweep.TheVariants as sweep
+use Rattle.core_steps.specs.Kinds.{StepKind, kind_in, kind_of}
+use Rattle.core_steps.proofs.ByKind.{GoesBy, goes_with, kind_with, of_table, word_kind}
 use Rattle.tag_model.proofs.Steps.{safe-steps_with}
 use Rattle.tag_model.specs.declared.state.Run.{Run}
 use Rattle.tag_model.specs.declared.state.Part.{Part}
@@ -179,40 +182,40 @@ module _ (s : CoreState) (cpu : ℕ) (core : IsCore s) (below : cpu < s.shape.cp
 
   word_leads : (reads : ℕ) (op : CpuOp) (ops : List CpuOp) (done : ℕ) → IsRuled s.shape (runs_in (inside_at s.modules cpu)) (step_of op done (hand_at s.machine cpu) s.machine.places (inside_at s.modules cpu)) (hand_at s.machine cpu) s.machine.places
       → modules_after (step_of op done (hand_at s.machine cpu) s.machine.places (inside_at s.modules cpu)) s.modules cpu ≡ s.modules
-      → StepsWith s.shape (state_after reads s) (after_ops reads s cpu (op ∷ ops) done)
+      → (after : Sweep) → GoesBy s.shape (word_kind (step_of op done (hand_at s.machine cpu) s.machine.places (inside_at s.modules cpu))) after (state_after reads s) (after_ops reads s cpu (op ∷ ops) done)
   unfolding state_with
-  word_leads reads op ops done ruled stay =
+  word_leads reads op ops done ruled stay after =
       let own : cpu ≡ 0 + cpu = omega arith in
       let led = leads_step s.shape core.shape s.machine s.words cpu (runs_of s.modules) (list_parts reads [] s.modules.list) (core.machine.hands ∙ sym core.words) (omega (arith, core.machine.hands))
       (step_of op done (hand_at s.machine cpu) s.machine.places (inside_at s.modules cpu))
       (subst (λ (n : ℕ). IsRuled s.shape (runs_of s.modules n) (step_of op done (hand_at s.machine cpu) s.machine.places (inside_at s.modules cpu)) (hand_at s.machine cpu) s.machine.places) own ruled) in
-      rw stay (alone led.steps)
+      rw stay (led.goes after)
 
   -- what goes in or out changes neither hands nor words
   list_leads : (reads : ℕ) (op : CpuOp) (ops : List CpuOp) (step : WordStep) (w : Waiting) (next : ModuleTable)
       → hand_after step (hand_at s.machine cpu) ≡ hand_at s.machine cpu → words_after step (hand_at s.machine cpu) (words_at s.words cpu) ≡ words_at s.words cpu → places_after step s.machine.places ≡ s.machine.places
-      → StepsWith s.shape (state_after reads s) (state_of reads s.machine s.words next)
-      → StepsWith s.shape (state_after reads s) (state_of reads (machine_after s.machine cpu step w) (set s.words cpu (words_after step (hand_at s.machine cpu) (words_at s.words cpu))) next)
+      → (kind : StepKind) (after : Sweep) → GoesBy s.shape kind after (state_after reads s) (state_of reads s.machine s.words next)
+      → GoesBy s.shape kind after (state_after reads s) (state_of reads (machine_after s.machine cpu step w) (set s.words cpu (words_after step (hand_at s.machine cpu) (words_at s.words cpu))) next)
   unfolding state_with
-  list_leads reads op ops step w next hand words places led = rw (hand, words, places, set-get_or s.machine.hands cpu None, set-get_or s.words cpu []) led
+  list_leads reads op ops step w next hand words places kind after led = rw (hand, words, places, set-get_or s.machine.hands cpu None, set-get_or s.words cpu []) led
 
   leads_op : (reads : ℕ) (op : CpuOp) (ops : List CpuOp) (done : ℕ) → IsReady s.sections s.machine.places (hand_at s.machine cpu) (op ∷ ops) done
       → (done ≡ 0 → first_refusal s.machine.places s.machine.waiting (scene_at s.modules cpu) op ≡ None)
       → Next s.shape s.sections (inside_at s.modules cpu) s.machine.places (hand_at s.machine cpu) op ops done
-      → StepsWith s.shape (state_after reads s) (after_ops reads s cpu (op ∷ ops) done)
-  leads_op reads (Open key section index size) ops done ready free n = word_leads reads (Open key section index size) ops done n.ruled (stay_now (Open key section index size) done refl)
-  leads_op reads (Close key) ops done ready free n = word_leads reads (Close key) ops done n.ruled (stay_now (Close key) done refl)
-  leads_op reads (Split key parts first) ops done ready free n = word_leads reads (Split key parts first) ops done n.ruled (stay_now (Split key parts first) done refl)
-  leads_op reads (Swap one two) ops done ready free n = word_leads reads (Swap one two) ops done n.ruled (stay_now (Swap one two) done refl)
-  leads_op reads (Trim key bytes) ops done ready free n = word_leads reads (Trim key bytes) ops done n.ruled (stay_now (Trim key bytes) done refl)
-  leads_op reads (Enter section) ops done ready free n =
+      → (after : Sweep) → GoesBy s.shape (word_kind (step_of op done (hand_at s.machine cpu) s.machine.places (inside_at s.modules cpu))) after (state_after reads s) (after_ops reads s cpu (op ∷ ops) done)
+  leads_op reads (Open key section index size) ops done ready free n after = word_leads reads (Open key section index size) ops done n.ruled (stay_now (Open key section index size) done refl) after
+  leads_op reads (Close key) ops done ready free n after = word_leads reads (Close key) ops done n.ruled (stay_now (Close key) done refl) after
+  leads_op reads (Split key parts first) ops done ready free n after = word_leads reads (Split key parts first) ops done n.ruled (stay_now (Split key parts first) done refl) after
+  leads_op reads (Swap one two) ops done ready free n after = word_leads reads (Swap one two) ops done n.ruled (stay_now (Swap one two) done refl) after
+  leads_op reads (Trim key bytes) ops done ready free n after = word_leads reads (Trim key bytes) ops done n.ruled (stay_now (Trim key bytes) done refl) after
+  leads_op reads (Enter section) ops done ready free n after =
       let first : done ≡ 0 = omega (arith, ready.0.within) in
-      list_leads reads (Enter section) ops (GoIn section) (advanced (Enter section ∷ ops) done) (modules_after (GoIn section) s.modules cpu) refl refl refl
-      (goes_in_row s core cpu below section ready.1.has_section (free first) reads)
-  leads_op reads (Leave section) ops done ready free n =
+      list_leads reads (Enter section) ops (GoIn section) (advanced (Enter section ∷ ops) done) (modules_after (GoIn section) s.modules cpu) refl refl refl StepKind.Enter after
+      (goes_in_row s core cpu below section ready.1.has_section (free first) reads after)
+  leads_op reads (Leave section) ops done ready free n after =
       let first : done ≡ 0 = omega (arith, ready.0.within) in
-      list_leads reads (Leave section) ops (GoOut section) (advanced (Leave section ∷ ops) done) (modules_after (GoOut section) s.modules cpu) refl refl refl
-      (goes_out_row s core cpu below section ready.1.has_section (free first) n.ruled reads)
+      list_leads reads (Leave section) ops (GoOut section) (advanced (Leave section ∷ ops) done) (modules_after (GoOut section) s.modules cpu) refl refl refl StepKind.Leave after
+      (goes_out_row s core cpu below section ready.1.has_section (free first) n.ruled reads after)
 
   -- the modules are some again
   modules_op : (op : CpuOp) (ops : List CpuOp) (done : ℕ) → IsReady s.sections s.machine.places (hand_at s.machine cpu) (op ∷ ops) done
@@ -228,7 +231,7 @@ module _ (s : CoreState) (cpu : ℕ) (core : IsCore s) (below : cpu < s.shape.cp
 
 -- the core after a step that isn't refused, by the ops that wait
 record Goes (s : CoreState) (cpu : ℕ) (ops : List CpuOp) (done : ℕ) : Type 0 where
-  steps : (reads : ℕ) → StepsWith s.shape (state_after reads s) (after_ops reads s cpu ops done)
+  steps : (reads : ℕ) (after : Sweep) → IsSomeAnd (kind_in ops done) (λ kind. GoesBy s.shape kind after (state_after reads s) (after_ops reads s cpu ops done))
   core : IsCore (record s {
     machine = stepped_by s.machine (inside_at s.modules cpu) cpu ops done;
     words = words_stepped s.machine (inside_at s.modules cpu) s.words cpu ops done;
@@ -238,43 +241,7 @@ record Goes (s : CoreState) (cpu : ℕ) (ops : List CpuOp) (done : ℕ) : Type 0
 pub first_passes : (m : Machine) (scene : Scene) (op : CpuOp) (ops : List CpuOp) (done : ℕ) → refusal_in m scene (op ∷ ops) done ≡ None → done ≡ 0 → first_refusal m.places m.waiting scene op ≡ None
 first_passes m scene op ops done none e = let at_start : refusal_in m scene (op ∷ ops) 0 ≡ None = subst (λ (d : ℕ). refusal_in m scene (op ∷ ops) d ≡ None) e none in at_start
 
-goes : (s : CoreState) (cpu : ℕ) (ops : List CpuOp) (done : ℕ) → IsCore s → cpu < s.shape.cpus → waiting_at s.machine cpu ≡ record { ops = ops; done = done } → refusal_in s.machine (scene_at s.modules cpu) ops done ≡ None → Goes s cpu ops done
-goes s cpu [] done core below waits none = cc
-goes s cpu (op ∷ ops) done core below waits none =
-    let inside = inside_at s.modules cpu in
-    let ready : IsReady s.sections s.machine.places (hand_at s.machine cpu) (op ∷ ops) done =
-    subst (λ (w : Waiting). IsReady s.sections s.machine.places (hand_at s.machine cpu) w.ops w.done) waits (core.machine.ready cpu below) in
-    let free : (done ≡ 0 → first_refusal s.machine.places s.machine.waiting (scene_at s.modules cpu) op ≡ None) = first_passes s.machine (scene_at s.modules cpu) op ops done none in
-    let n = next_at s cpu op ops done core below ready free in
-    let led : ((reads : ℕ) → StepsWith s.shape (state_after reads s) (after_ops reads s cpu (op ∷ ops) done)) = λ reads. leads_op s cpu core below reads op ops done ready free n in
-    record {
-      steps = led;
-      core = record {
-        shape = core.shape;
-        sections = core.sections;
-        machine = stepped_machine s.shape.cpus s.sections (scene_at s.modules cpu) s.machine cpu op ops done core.machine below waits free s.shape inside n;
-        words = length-set s.words cpu (words_after (step_of op done (hand_at s.machine cpu) s.machine.places inside) (hand_at s.machine cpu) (words_at s.words cpu)) ∙ core.words;
-        own_words = λ i within. words_kept s.shape.tags s.words cpu (step_of op done (hand_at s.machine cpu) s.machine.places inside) (hand_at s.machine cpu) (omega (arith, core.words)) (λ j w. core.own_words j (omega (arith, core.words))) i (omega (arith, core.words));
-        modules = modules_op s cpu core below op ops done ready free;
-        safe = safe-steps_with s.shape (state_after 0 s) (after_ops 0 s cpu (op ∷ ops) done) core.shape (led 0) core.safe;
-      };
-    }
-
--- what `go` leaves where it isn't refused
-pub record Gone (s : CoreState) (cpu : ℕ) : Type 0 where
-  pub steps : (reads : ℕ) → StepsWith s.shape (state_after reads s) (state_after reads (stepped s (actor.Cpu cpu)))
-  pub core : IsCore (stepped s (actor.Cpu cpu))
-
-pub nothing_past : (m : Machine) (scene : Scene) (cpu : ℕ) → length m.waiting ≤ cpu → refusal_of m scene cpu ≡ Some NoStep
-nothing_past m scene cpu past = rw (get_or_past m.waiting cpu nothing_waits past) refl
-
-pub gone : (s : CoreState) (cpu : ℕ) → IsCore s → refused s (actor.Cpu cpu) ≡ None → Gone s cpu
-gone s cpu core none = elim (cases_lt cpu s.shape.cpus) [
-  | inl below ↦ let g = goes s cpu (waiting_at s.machine cpu).ops (waiting_at s.machine cpu).done core below refl none in record { steps = g.steps; core = g.core }
-  | inr past ↦ let bad = nothing_past s.machine (scene_at s.modules cpu) cpu (omega (arith, core.machine.waiting)) in cc
-]
-
--- what the next step reads and writes is there
+-- an op under way has a step left
 done_below : (places : List Held) (hand : Option Hand) (op : CpuOp) (done : ℕ) → IsUnderWay places hand op done → done < step_count op
 done_below places hand (Open key section index size) done under = under.within
 done_below places hand (Close key) done under = under.within
@@ -284,6 +251,46 @@ done_below places hand (Trim key bytes) done under = under.within
 done_below places hand (Enter section) done under = under.within
 done_below places hand (Leave section) done under = under.within
 
+goes : (s : CoreState) (cpu : ℕ) (ops : List CpuOp) (done : ℕ) → IsCore s → cpu < s.shape.cpus → waiting_at s.machine cpu ≡ record { ops = ops; done = done } → refusal_in s.machine (scene_at s.modules cpu) ops done ≡ None → Goes s cpu ops done
+goes s cpu [] done core below waits none = cc
+goes s cpu (op ∷ ops) done core below waits none =
+    let inside = inside_at s.modules cpu in
+    let ready : IsReady s.sections s.machine.places (hand_at s.machine cpu) (op ∷ ops) done =
+    subst (λ (w : Waiting). IsReady s.sections s.machine.places (hand_at s.machine cpu) w.ops w.done) waits (core.machine.ready cpu below) in
+    let free : (done ≡ 0 → first_refusal s.machine.places s.machine.waiting (scene_at s.modules cpu) op ≡ None) = first_passes s.machine (scene_at s.modules cpu) op ops done none in
+    let n = next_at s cpu op ops done core below ready free in
+    let within = done_below s.machine.places (hand_at s.machine cpu) op done ready.0 in
+    let kind = word_kind (step_of op done (hand_at s.machine cpu) s.machine.places inside) in
+    let led : ((reads : ℕ) (after : Sweep) → GoesBy s.shape kind after (state_after reads s) (after_ops reads s cpu (op ∷ ops) done)) = λ reads after. leads_op s cpu core below reads op ops done ready free n after in
+    record {
+      steps = λ reads after. subst (λ (o : Option StepKind). IsSomeAnd o (λ kind. GoesBy s.shape kind after (state_after reads s) (after_ops reads s cpu (op ∷ ops) done))) (sym (of_table op done (hand_at s.machine cpu) s.machine.places inside (omega (arith, within)) within)) (led reads after);
+      core = record {
+        shape = core.shape;
+        sections = core.sections;
+        machine = stepped_machine s.shape.cpus s.sections (scene_at s.modules cpu) s.machine cpu op ops done core.machine below waits free s.shape inside n;
+        words = length-set s.words cpu (words_after (step_of op done (hand_at s.machine cpu) s.machine.places inside) (hand_at s.machine cpu) (words_at s.words cpu)) ∙ core.words;
+        own_words = λ i within. words_kept s.shape.tags s.words cpu (step_of op done (hand_at s.machine cpu) s.machine.places inside) (hand_at s.machine cpu) (omega (arith, core.words)) (λ j w. core.own_words j (omega (arith, core.words))) i (omega (arith, core.words));
+        modules = modules_op s cpu core below op ops done ready free;
+        safe = safe-steps_with s.shape (state_after 0 s) (after_ops 0 s cpu (op ∷ ops) done) core.shape (goes_with s.shape kind sweep.None _ _ (led 0 sweep.None)) core.safe;
+      };
+    }
+
+-- what `go` leaves where it isn't refused
+pub record Gone (s : CoreState) (cpu : ℕ) : Type 0 where
+  pub kinds : (reads : ℕ) (after : Sweep) → IsSomeAnd (kind_of s (actor.Cpu cpu)) (λ kind. GoesBy s.shape kind after (state_after reads s) (state_after reads (stepped s (actor.Cpu cpu))))
+  pub steps : (reads : ℕ) → StepsWith s.shape (state_after reads s) (state_after reads (stepped s (actor.Cpu cpu)))
+  pub core : IsCore (stepped s (actor.Cpu cpu))
+
+pub nothing_past : (m : Machine) (scene : Scene) (cpu : ℕ) → length m.waiting ≤ cpu → refusal_of m scene cpu ≡ Some NoStep
+nothing_past m scene cpu past = rw (get_or_past m.waiting cpu nothing_waits past) refl
+
+pub gone : (s : CoreState) (cpu : ℕ) → IsCore s → refused s (actor.Cpu cpu) ≡ None → Gone s cpu
+gone s cpu core none = elim (cases_lt cpu s.shape.cpus) [
+  | inl below ↦ let g = goes s cpu (waiting_at s.machine cpu).ops (waiting_at s.machine cpu).done core below refl none in record { kinds = g.steps; steps = λ reads. kind_with s.shape (kind_of s (actor.Cpu cpu)) sweep.None _ _ (g.steps reads sweep.None); core = g.core }
+  | inr past ↦ let bad = nothing_past s.machine (scene_at s.modules cpu) cpu (omega (arith, core.machine.waiting)) in cc
+]
+
+-- what the next step reads and writes is there
 keys_fit : (sections : List Section) (op : CpuOp) → IsOp sections op → KeysFit op
 keys_fit n (Open key section index size) is = is.key_below
 keys_fit n (Close key) is = is.key_below

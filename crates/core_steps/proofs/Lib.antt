@@ -1,4 +1,5 @@
 pub mod Parts
+pub mod ByKind
 pub mod Leads
 pub mod Takes
 pub mod Hands
@@ -28,3 +29,6 @@ pub mod ManagerTold
 pub mod SweepBounds
 pub mod Others
 pub mod ReadOn
+pub mod ManagerKept
+pub mod Stepping
+pub mod StopRun

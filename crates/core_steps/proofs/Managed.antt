@@ -27,6 +27,7 @@ use Rattle.module_ops.specs.declared.op.ManagerOp.TheVariants.{Load, Unload, Cle
 use Rattle.cpu_ops.specs.declared.refused.StepRefused.{StepRefused}
 use Rattle.module_ops.specs.Modules.{ModuleTable, begins_op, is_nothing, load_refused, managed, managed_by, manager_first, manager_reads, manager_refusal, manager_refusal_in, swept_on, unload_refused, unloads, word_read, words_read, sweep_goes}
 use Rattle.cpu_ops.specs.MayQueue.{section_len}
+use Rattle.core_steps.specs.Kinds.{StepKind, first_of, manager_kind, scan_of, sweep_step}
 use Rattle.core_steps.proofs.Parts.{becomes_list}
 
 -- ---- the count of reads
@@ -72,13 +73,13 @@ can_manage s core = record {
 -- ---- the kinds of the manager's step
 
 -- what a step of the op, behind which these wait, makes of the modules, and how many words it reads
-pub data Manages (k : Shape) (sections : List Section) (words : List (List ℕ)) (ms : ModuleTable) (op : ManagerOp) (ops : List ManagerOp) : ℕ → ModuleTable → Type 0 where
+pub data Manages (k : Shape) (sections : List Section) (words : List (List ℕ)) (ms : ModuleTable) (op : ManagerOp) (ops : List ManagerOp) : Option StepKind → ℕ → ModuleTable → Type 0 where
   loads : (section : ℕ) → ms.manager.under_way ≡ false → IsModule sections section → load_refusal section (section_len sections section) ms.list ≡ None
-      → Manages k sections words ms op ops 0 (record ms { list = loaded section (section_len sections section) ms.list; manager = record { ops = ops; under_way = false } })
-  marks_dead : (section : ℕ) (e : Entry) → ms.manager.under_way ≡ false → loaded_entry section ms.list ≡ Some e → e.users ≡ 0 → Manages k sections words ms op ops 0 (swept_on ms op ops (dead_list e.id ms.list))
-  sweeps : ms.manager.under_way ≡ false → Manages k sections words ms op ops 0 (swept_on ms op ops (swept_list ms.list))
-  scans : (left : List ℕ) (r : Reader) → ms.manager.under_way ≡ true → ms.list.sweep ≡ sweep.Reading left r → Manages k sections words ms op ops 1 (swept_on ms op ops (scanned k (word_read words r) ms.list))
-  releases : (id : ℕ) (left : List ℕ) → ms.manager.under_way ≡ true → ms.list.sweep ≡ sweep.Done (id ∷ left) → Manages k sections words ms op ops 0 (swept_on ms op ops (released ms.list))
+      → Manages k sections words ms op ops (Some StepKind.Load) 0 (record ms { list = loaded section (section_len sections section) ms.list; manager = record { ops = ops; under_way = false } })
+  marks_dead : (section : ℕ) (e : Entry) → ms.manager.under_way ≡ false → loaded_entry section ms.list ≡ Some e → e.users ≡ 0 → Manages k sections words ms op ops (Some StepKind.MarkDead) 0 (swept_on ms op ops (dead_list e.id ms.list))
+  sweeps : ms.manager.under_way ≡ false → Manages k sections words ms op ops (Some StepKind.BeginSweep) 0 (swept_on ms op ops (swept_list ms.list))
+  scans : (left : List ℕ) (r : Reader) → ms.manager.under_way ≡ true → ms.list.sweep ≡ sweep.Reading left r → Manages k sections words ms op ops (Some (scan_of r.pass)) 1 (swept_on ms op ops (scanned k (word_read words r) ms.list))
+  releases : (id : ℕ) (left : List ℕ) → ms.manager.under_way ≡ true → ms.list.sweep ≡ sweep.Done (id ∷ left) → Manages k sections words ms op ops (Some StepKind.Release) 0 (swept_on ms op ops (released ms.list))
 
 -- the first step of an op
 none_refused : (section : ℕ) (o : Option AreaError) → option_map (load_refused section) o ≡ None → o ≡ None
@@ -86,7 +87,7 @@ none_refused section None none = refl
 none_refused section (Some why) none = absurd (cc)
 
 module _ (k : Shape) (sections : List Section) (words : List (List ℕ)) (ms : ModuleTable) (ops : List ManagerOp) (starts : ms.manager.under_way ≡ false) where
-  unloads_loaded : (section : ℕ) (op : ManagerOp) (o : Option Entry) → loaded_entry section ms.list ≡ o → unload_refused section o ≡ None → Manages k sections words ms op ops 0 (unloads ms op ops o)
+  unloads_loaded : (section : ℕ) (op : ManagerOp) (o : Option Entry) → loaded_entry section ms.list ≡ o → unload_refused section o ≡ None → Manages k sections words ms op ops (Some StepKind.MarkDead) 0 (unloads ms op ops o)
   unloads_loaded section op None is none = absurd (cc)
   unloads_loaded section op (Some e) is none = Manages.marks_dead section e starts is (unused (e.users == 0) refl none)
     where
@@ -94,14 +95,14 @@ module _ (k : Shape) (sections : List Section) (words : List (List ℕ)) (ms : M
       unused true zero none = eqb-true e.users 0 zero
       unused false some none = absurd (cc)
 
-  begins : (op : ManagerOp) → IsManagerOp sections op → manager_first sections ms.list op ≡ None → Manages k sections words ms op ops 0 (begins_op sections ms op ops)
+  begins : (op : ManagerOp) → IsManagerOp sections op → manager_first sections ms.list op ≡ None → Manages k sections words ms op ops (Some (first_of op)) 0 (begins_op sections ms op ops)
   begins (Load section) is none = Manages.loads section starts is (none_refused section _ none)
   begins (Unload section) is none = unloads_loaded section (Unload section) (loaded_entry section ms.list) refl none
   begins Clean is none = Manages.sweeps starts
 
 -- the further steps
 goes_on : (k : Shape) (sections : List Section) (words : List (List ℕ)) (ms : ModuleTable) (op : ManagerOp) (ops : List ManagerOp) → ms.manager.under_way ≡ true → (s : Sweep) → ms.list.sweep ≡ s → is_nothing (next_of s) ≡ false
-    → Manages k sections words ms op ops (words_read (next_of s)) (swept_on ms op ops (sweep_goes k words ms.list (next_of s)))
+    → Manages k sections words ms op ops (sweep_step (next_of s)) (words_read (next_of s)) (swept_on ms op ops (sweep_goes k words ms.list (next_of s)))
 goes_on k sections words ms op ops way sweep.None is some = absurd (cc)
 goes_on k sections words ms op ops way (sweep.Reading left r) is some = Manages.scans left r way is
 goes_on k sections words ms op ops way (sweep.Done []) is some = absurd (cc)
@@ -112,14 +113,14 @@ pub record ManagesFirst (k : Shape) (sections : List Section) (words : List (Lis
   pub op : ManagerOp
   pub ops : List ManagerOp
   pub is : ms.manager.ops ≡ op ∷ ops
-  pub step : Manages k sections words ms op ops (manager_reads ms) (managed k sections words ms)
+  pub step : Manages k sections words ms op ops (manager_kind ms.manager.ops ms.manager.under_way (next_of ms.list.sweep)) (manager_reads ms) (managed k sections words ms)
 
 pub manages : (k : Shape) (sections : List Section) (words : List (List ℕ)) (ms : ModuleTable) → AllByRecursion (IsManagerOp sections) ms.manager.ops → (ms.manager.under_way ≡ true → is_nothing (next_of ms.list.sweep) ≡ false)
     → manager_refusal sections ms ≡ None → ManagesFirst k sections words ms
 manages k sections words ms are on none = by_ops ms.manager.ops refl are none
   where
     by_way : (op : ManagerOp) (ops : List ManagerOp) → IsManagerOp sections op → (way : Bool) → ms.manager.under_way ≡ way → cond way None (manager_first sections ms.list op) ≡ None
-        → Manages k sections words ms op ops (cond way (words_read (next_of ms.list.sweep)) 0) (managed_by k sections words ms (op ∷ ops) way)
+        → Manages k sections words ms op ops (manager_kind (op ∷ ops) way (next_of ms.list.sweep)) (cond way (words_read (next_of ms.list.sweep)) 0) (managed_by k sections words ms (op ∷ ops) way)
     by_way op ops is true way none = goes_on k sections words ms op ops way ms.list.sweep refl (on way)
     by_way op ops is false way none = begins k sections words ms ops way op is none
 
@@ -130,5 +131,5 @@ manages k sections words ms are on none = by_ops ms.manager.ops refl are none
       ops = ops;
       is = is;
       step =
-          subst (λ all. Manages k sections words ms op ops (manager_reads ms) (managed_by k sections words ms all ms.manager.under_way)) (sym is) (by_way op ops are.0 ms.manager.under_way refl none);
+          subst (λ all. Manages k sections words ms op ops (manager_kind all ms.manager.under_way (next_of ms.list.sweep)) (manager_reads ms) (managed_by k sections words ms all ms.manager.under_way)) (sym is) (by_way op ops are.0 ms.manager.under_way refl none);
     }

@@ -1,5 +1,5 @@
 -- A core stays a core after the manager's step, and where an op is queued for the manager.
-use Rattle.std.proofs.Common.{◌≡◌, ◌≢◌, ℕ, ◌==◌, List, [], ◌∷◌, ◌++◌, refl, ◌∙◌, subst, arith, Bool, true, false, not, cond, Some, None, All}
+use Rattle.std.proofs.Common.{◌≡◌, ◌≢◌, ℕ, ◌==◌, List, [], ◌∷◌, ◌++◌, refl, ◌∙◌, subst, arith, Bool, true, false, not, cond, Option, Some, None, All}
 use Rattle.std.specs.List.{AllByRecursion}
 use Rattle.std.proofs.lemmas.List.Elements.{All-map, All-filter, All-push, All-weaker}
 use Rattle.tag_model.specs.declared.shape.Shape.{Shape}
@@ -17,6 +17,7 @@ use Rattle.module_ops.specs.Modules.{Managing, ModuleTable, is_nothing, managed,
 use Rattle.cpu_ops.specs.MayQueue.{section_len}
 use Rattle.core_steps.specs.CoreState.{AreModules, CoreState, EntryFits, IsCore, queued_manager, stepped}
 use Rattle.module_ops.specs.Modules.{IsManagerOp}
+use Rattle.core_steps.specs.Kinds.{StepKind}
 use Rattle.core_steps.proofs.Managed.{sweep_told, Manages}
 use Rattle.core_steps.proofs.ManagerRow.{managed_first, manager_safe}
 
@@ -95,27 +96,27 @@ modules_with k sections ms list m are keeps on = record {
   at_rest = on.at_rest;
 }
 
-modules_after : (s : CoreState) → IsCore s → (op : ManagerOp) (ops : List ManagerOp) (n : ℕ) (after : ModuleTable) → AllByRecursion (IsManagerOp s.sections) (op ∷ ops) → Manages s.shape s.sections s.words s.modules op ops n after → AreModules s.shape s.sections after
-modules_after s core op ops n after are (Manages.loads section starts is none) =
+modules_after : (s : CoreState) → IsCore s → (op : ManagerOp) (ops : List ManagerOp) (kind : Option StepKind) (n : ℕ) (after : ModuleTable) → AllByRecursion (IsManagerOp s.sections) (op ∷ ops) → Manages s.shape s.sections s.words s.modules op ops kind n after → AreModules s.shape s.sections after
+modules_after s core op ops kind n after are (Manages.loads section starts is none) =
     let l = s.modules.list in
     let size = section_len s.sections section in
     let of_new : EntryFits s.sections (new_entry section size l) = record { of_module = is; all_tags = refl } in
     modules_with s.shape s.sections s.modules (loaded section size l) (record { ops = ops; under_way = false }) core.modules
     (record { list = list_loaded l section size core.modules.list (core.sections.some_tag section is.has_section) none; first = refl; tags = refl; entries = All-push (EntryFits s.sections) l.area.entries (new_entry section size l) core.modules.entries of_new })
     (record { ops = are.1; some_op = λ e. absurd (cc); goes_on = λ e. absurd (cc); at_rest = λ e. core.modules.at_rest starts })
-modules_after s core op ops n after are (Manages.marks_dead section e starts is unused) =
+modules_after s core op ops kind n after are (Manages.marks_dead section e starts is unused) =
     modules_with s.shape s.sections s.modules _ _ core.modules (keeps_dead s.sections s.modules.list e.id core.modules.list core.modules.entries) (manages_on s.sections op ops _ are)
-modules_after s core op ops n after are (Manages.sweeps starts) =
+modules_after s core op ops kind n after are (Manages.sweeps starts) =
     modules_with s.shape s.sections s.modules _ _ core.modules (keeps_swept s.sections s.modules.list core.modules.list core.modules.entries) (manages_on s.sections op ops _ are)
-modules_after s core op ops n after are (Manages.scans left r goes is) =
+modules_after s core op ops kind n after are (Manages.scans left r goes is) =
     modules_with s.shape s.sections s.modules _ _ core.modules (keeps_scanned s.sections s.shape (word_read s.words r) s.modules.list core.modules.list core.modules.entries (sweep_told s core).0) (manages_on s.sections op ops _ are)
-modules_after s core op ops n after are (Manages.releases id left goes is) =
+modules_after s core op ops kind n after are (Manages.releases id left goes is) =
     modules_with s.shape s.sections s.modules _ _ core.modules (keeps_released s.sections s.modules.list core.modules.list core.modules.entries) (manages_on s.sections op ops _ are)
 
 pub manager_modules : (s : CoreState) → IsCore s → manager_refusal s.sections s.modules ≡ None → AreModules s.shape s.sections (managed s.shape s.sections s.words s.modules)
 manager_modules s core none =
     let first = managed_first s core none in
-    modules_after s core first.op first.ops _ _ (subst (AllByRecursion (IsManagerOp s.sections)) first.is core.modules.ops) first.step
+    modules_after s core first.op first.ops _ _ _ (subst (AllByRecursion (IsManagerOp s.sections)) first.is core.modules.ops) first.step
 
 pub manager_core : (s : CoreState) → IsCore s → manager_refusal s.sections s.modules ≡ None → IsCore (stepped s actor.Manager)
 manager_core s core none = record {

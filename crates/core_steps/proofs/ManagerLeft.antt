@@ -1,5 +1,5 @@
 -- The manager's step leaves fewer steps, and none is left where nothing is queued.
-use Rattle.std.proofs.Common.{◌≡◌, ℕ, ◌+◌, ◌<◌, ◌≤◌, List, [], ◌∷◌, refl, sym, subst, arith, Bool, true, false, cond, None}
+use Rattle.std.proofs.Common.{◌≡◌, ℕ, ◌+◌, ◌<◌, ◌≤◌, List, [], ◌∷◌, refl, sym, subst, arith, Bool, true, false, cond, Option, None}
 use Rattle.tag_model.specs.declared.shape.Shape.{Shape}
 use Rattle.tag_model.specs.declared.state.Sweep.{Sweep}
 use Rattle.tag_model.specs.declared.state.Sweep.TheVariants as sweep
@@ -9,6 +9,7 @@ use Rattle.module_ops.specs.declared.op.ManagerOp.{ManagerOp}
 use Rattle.module_ops.specs.Modules.{Managing, ModuleTable, is_nothing, managed, managed_on, manager_refusal, word_read}
 use Rattle.cpu_ops.specs.MayQueue.{section_len}
 use Rattle.core_steps.specs.CoreState.{CoreState, IsCore}
+use Rattle.core_steps.specs.Kinds.{StepKind}
 use Rattle.core_steps.specs.StepsLeft.{manager_steps_left, most_left, most_of_ops}
 use Rattle.cpu_ops.proofs.LoadedEntry.{loaded_found}
 use Rattle.core_steps.proofs.Managed.{sweep_told, Manages}
@@ -31,11 +32,11 @@ left_behind k op ops list = go (is_nothing (next_of list.sweep))
     go true = omega (arith, left_at_rest k list ops)
     go false = omega arith
 
-left_after : (s : CoreState) → IsCore s → (op : ManagerOp) (ops : List ManagerOp) (n : ℕ) (after : ModuleTable) → Manages s.shape s.sections s.words s.modules op ops n after
+left_after : (s : CoreState) → IsCore s → (op : ManagerOp) (ops : List ManagerOp) (kind : Option StepKind) (n : ℕ) (after : ModuleTable) → Manages s.shape s.sections s.words s.modules op ops kind n after
     → manager_steps_left s.shape after < most_left s.shape s.modules.list (op ∷ ops) s.modules.manager.under_way
-left_after s core op ops n after (Manages.loads section starts is none) =
+left_after s core op ops kind n after (Manages.loads section starts is none) =
     rw starts (omega (arith, left_at_rest s.shape (loaded section (section_len s.sections section) s.modules.list) ops, one_op_more s.shape op ops))
-left_after s core op ops n after (Manages.marks_dead section e starts is unused) =
+left_after s core op ops kind n after (Manages.marks_dead section e starts is unused) =
     let l = s.modules.list in
     let there = (loaded_found section l e core.modules.list is).0 in
     rw starts (omega (
@@ -45,7 +46,7 @@ left_after s core op ops n after (Manages.marks_dead section e starts is unused)
       begins_of_one s.shape l e.id e core.modules.list there,
       most_of_one s.shape l e.id e core.modules.list (omega (arith, core.modules.tags)) there,
     ))
-left_after s core op ops n after (Manages.sweeps starts) =
+left_after s core op ops kind n after (Manages.sweeps starts) =
     let l = s.modules.list in
     rw starts (omega (
       arith,
@@ -54,17 +55,17 @@ left_after s core op ops n after (Manages.sweeps starts) =
       begins_of_all s.shape l core.modules.list,
       most_of_all s.shape l core.modules.list (omega (arith, core.modules.tags)),
     ))
-left_after s core op ops n after (Manages.scans left r goes is) =
+left_after s core op ops kind n after (Manages.scans left r goes is) =
     let l = s.modules.list in
     rw goes (omega (arith, left_behind s.shape op ops (scanned s.shape (word_read s.words r) l), scan_falls s.shape l (word_read s.words r) left r core.modules.list (sweep_told s core).0 is))
-left_after s core op ops n after (Manages.releases id left goes is) =
+left_after s core op ops kind n after (Manages.releases id left goes is) =
     let l = s.modules.list in
     rw goes (omega (arith, left_behind s.shape op ops (released l), release_falls s.shape l id left is))
 
 pub manager_left : (s : CoreState) → IsCore s → manager_refusal s.sections s.modules ≡ None → manager_steps_left s.shape (managed s.shape s.sections s.words s.modules) < manager_steps_left s.shape s.modules
 manager_left s core none =
     let first = managed_first s core none in
-    subst (λ all. manager_steps_left s.shape (managed s.shape s.sections s.words s.modules) < most_left s.shape s.modules.list all s.modules.manager.under_way) (sym first.is) (left_after s core first.op first.ops _ _ first.step)
+    subst (λ all. manager_steps_left s.shape (managed s.shape s.sections s.words s.modules) < most_left s.shape s.modules.list all s.modules.manager.under_way) (sym first.is) (left_after s core first.op first.ops _ _ _ first.step)
 
 -- a sweep that goes on has a step left
 pub some_left : (s : CoreState) → IsCore s → (x : Sweep) → s.modules.list.sweep ≡ x → is_nothing (next_of x) ≡ false → 0 < sweep_steps s.shape s.modules.list

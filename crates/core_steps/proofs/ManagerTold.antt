@@ -26,7 +26,7 @@ use Rattle.core_steps.proofs.Managed.{sweep_told}
 use Rattle.core_steps.proofs.ManagerRelease.{sweep_releases}
 
 -- the entry of a read
-read_entry : (s : CoreState) (left : List ℕ) (r : Reader) → IsCore s → sweep_fits s.shape (sweep.Reading left r) (records_of s.modules.list) ≡ true → TheEntry s.modules.list.area.entries r.id (λ (x : Record). in_range x.start x.length r.tag)
+pub read_entry : (s : CoreState) (left : List ℕ) (r : Reader) → IsCore s → sweep_fits s.shape (sweep.Reading left r) (records_of s.modules.list) ≡ true → TheEntry s.modules.list.area.entries r.id (λ (x : Record). in_range x.start x.length r.tag)
 read_entry s left r core fits =
     let l = s.modules.list in
     let at = (reading_fits s.shape left r (records_of l) fits).at in

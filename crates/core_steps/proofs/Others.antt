@@ -1,5 +1,5 @@
 -- What a step leaves to the other actors, and what holds where no actor has an op.
-use Rattle.std.proofs.Common.{◌≡◌, ◌≢◌, ℕ, ◌+◌, ◌<◌, ◌==◌, nat_lt, List, [], ◌∷◌, refl, sym, ap, ◌∙◌, subst, arith, Option, Some, None, true}
+use Rattle.std.proofs.Common.{◌≡◌, ◌≢◌, ℕ, ◌+◌, ◌<◌, ◌==◌, nat_lt, List, [], ◌∷◌, refl, sym, ap, ◌∙◌, subst, arith, Option, Some, None, Bool, true, false}
 use Rattle.std.proofs.lemmas.List.{get_or-set_other}
 use Rattle.tag_model.specs.declared.state.Hand.{Hand}
 use Rattle.tag_model.specs.declared.state.Held.{Held}
@@ -15,7 +15,7 @@ use Rattle.core_steps.specs.declared.op.Actor.{Actor}
 use Rattle.core_steps.specs.declared.op.Actor.TheVariants as actor
 use Rattle.core_steps.specs.CoreState.{CoreState, IsCore, IsReady, modules_stepped, refused, stepped}
 use Rattle.core_steps.specs.Laws.{IsIdle, SameQueue, waits_for}
-use Rattle.core_steps.proofs.Queued.{cpu_none}
+use Rattle.core_steps.proofs.Queued.{cpu_none, manager_none}
 use Rattle.core_steps.proofs.Steps.{free_in, later_free}
 
 in_keeps : (ms : ModuleTable) (cpu section : ℕ) (o : Option Entry) → (goes_in ms cpu section o).manager ≡ ms.manager
@@ -58,3 +58,11 @@ under_way_free s cpu done op ops waits later = free_in s.machine (scene_at s.mod
 pub idle_hand : (s : CoreState) (cpu : ℕ) → IsCore s → IsIdle s → cpu < s.shape.cpus → hand_at s.machine cpu ≡ None
 idle_hand s cpu core idle below =
     (subst (λ (ops : List CpuOp). IsReady s.sections s.machine.places (hand_at s.machine cpu) ops (waiting_at s.machine cpu).done) (cpu_none (waiting_at s.machine cpu).ops (idle (actor.Cpu cpu) below)) (core.machine.ready cpu below)).0
+
+-- nor is an op of the manager under way
+pub idle_manager : (s : CoreState) → IsCore s → IsIdle s → s.modules.manager.under_way ≡ false
+idle_manager s core idle = go s.modules.manager.under_way refl
+  where
+    go : (way : Bool) → s.modules.manager.under_way ≡ way → way ≡ false
+    go false is = refl
+    go true is = absurd (core.modules.some_op is (manager_none s.modules.manager.ops (idle actor.Manager tt)))

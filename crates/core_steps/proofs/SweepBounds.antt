@@ -18,6 +18,7 @@ use Rattle.module_ops.specs.Modules.{Managing, ModuleTable, is_nothing, managed_
 use Rattle.core_steps.specs.CoreState.{CoreState, IsCore, IsReady, modules_stepped, refused, stepped}
 use Rattle.core_steps.proofs.Kept.{first_passes, nothing_past, stay_now}
 use Rattle.cpu_ops.proofs.LoadedEntry.{loaded_found}
+use Rattle.core_steps.specs.Kinds.{StepKind}
 use Rattle.core_steps.proofs.Managed.{Manages, sweep_told}
 use Rattle.core_steps.proofs.ManagerCore.{manager_core}
 use Rattle.core_steps.proofs.ManagerLeft.{some_left}
@@ -59,16 +60,16 @@ unrefused s core way = go s.modules.manager.ops refl
     go [] is = absurd (core.modules.some_op way is)
     go (op ∷ ops) is = rw way refl
 
-fewer_after : (s : CoreState) → IsCore s → (op : ManagerOp) (ops : List ManagerOp) (n : ℕ) (after : ModuleTable) → s.modules.manager.under_way ≡ true → Manages s.shape s.sections s.words s.modules op ops n after
+fewer_after : (s : CoreState) → IsCore s → (op : ManagerOp) (ops : List ManagerOp) (kind : Option StepKind) (n : ℕ) (after : ModuleTable) → s.modules.manager.under_way ≡ true → Manages s.shape s.sections s.words s.modules op ops kind n after
     → sweep_steps s.shape after.list < sweep_steps s.shape s.modules.list
-fewer_after s core op ops n after way (Manages.loads section starts is none) = absurd (cc)
-fewer_after s core op ops n after way (Manages.marks_dead section e starts is unused) = absurd (cc)
-fewer_after s core op ops n after way (Manages.sweeps starts) = absurd (cc)
-fewer_after s core op ops n after way (Manages.scans left r goes is) = scan_falls s.shape s.modules.list _ left r core.modules.list (sweep_told s core).0 is
-fewer_after s core op ops n after way (Manages.releases id left goes is) = release_falls s.shape s.modules.list id left is
+fewer_after s core op ops kind n after way (Manages.loads section starts is none) = absurd (cc)
+fewer_after s core op ops kind n after way (Manages.marks_dead section e starts is unused) = absurd (cc)
+fewer_after s core op ops kind n after way (Manages.sweeps starts) = absurd (cc)
+fewer_after s core op ops kind n after way (Manages.scans left r goes is) = scan_falls s.shape s.modules.list _ left r core.modules.list (sweep_told s core).0 is
+fewer_after s core op ops kind n after way (Manages.releases id left goes is) = release_falls s.shape s.modules.list id left is
 
 pub sweep_falls : (s : CoreState) → IsCore s → s.modules.manager.under_way ≡ true → sweep_steps s.shape (stepped s actor.Manager).modules.list < sweep_steps s.shape s.modules.list
-sweep_falls s core way = let first = managed_first s core (unrefused s core way) in fewer_after s core first.op first.ops _ _ way first.step
+sweep_falls s core way = let first = managed_first s core (unrefused s core way) in fewer_after s core first.op first.ops _ _ _ way first.step
 
 -- what is left of an op that goes on isn't nothing
 ends_at : (s : CoreState) → IsCore s → sweep_steps s.shape s.modules.list ≡ 0 → is_nothing (next_of s.modules.list.sweep) ≡ true

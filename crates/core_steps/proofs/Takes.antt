@@ -29,6 +29,8 @@ use Rattle.cpu_ops.specs.Machine.{Machine, hand_at, held_at, hand_after, places_
 use Rattle.module_ops.specs.Modules.{words_at}
 use Rattle.core_steps.specs.CoreState.{cpu_part, cpu_parts, place_parts}
 use Rattle.core_steps.proofs.Parts.{becomes_first, length-cpu_parts, get_or-cpu_parts, get_or-place_parts, length-place_parts, sum_both, sum_without}
+use Rattle.core_steps.specs.Kinds.{StepKind}
+use Rattle.core_steps.proofs.ByKind.{word_kind}
 use Rattle.core_steps.proofs.Leads.{Leads, leads_cpu, leads_place}
 
 -- ---- a step may be taken by the step rules
@@ -87,33 +89,33 @@ tail_of places lists = place_parts 0 places ++ lists
 -- a hand is as it was where it is put back
 module _ (k : Shape) (checked : IsChecked k) (m : Machine) (words : List (List ℕ)) (cpu : ℕ) (runs : ℕ → List Run) (lists : List Part) (len : length m.hands ≡ length words) (below : cpu < length m.hands) where
   pub leads_step : (step : WordStep) → IsRuled k (runs (0 + cpu)) step (hand_at m cpu) m.places
-      → Leads k (cpu_parts 0 m.hands words runs ++ tail_of m.places lists)
+      → Leads k (word_kind step) (cpu_parts 0 m.hands words runs ++ tail_of m.places lists)
       (cpu_parts 0 (set m.hands cpu (hand_after step (hand_at m cpu))) (set words cpu (words_after step (hand_at m cpu) (words_at words cpu))) runs ++ tail_of (places_after step m.places) lists)
-  leads_step (BeginAllocation tag) r = leads_cpu k m.hands words runs (tail_of m.places lists) cpu _ (raised Calls tag.number 1 (words_at words cpu)) len below
+  leads_step (BeginAllocation tag) r = leads_cpu k StepKind.AddCall m.hands words runs (tail_of m.places lists) cpu _ (raised Calls tag.number 1 (words_at words cpu)) len below
       (let row : BeginsAllocation k tag (cpu_part (0 + cpu) (hand_at m cpu) (words_at words cpu) (runs (0 + cpu))) (cpu_part (0 + cpu) (Some (record { tag = tag; bytes = 0; calls = 1; opening = true })) (raised Calls tag.number 1 (words_at words cpu)) (runs (0 + cpu))) =
       record { free = r.free; allowed = r.allowed; after = refl } in
-      record { row = begins_allocation row; safe = λ old new becomes. safe-begins_allocation k tag _ _ old new checked row becomes })
-  leads_step (AddBytes size) r = rw r.held (leads_cpu k m.hands words runs (tail_of m.places lists) cpu (with_bytes size (Some r.h)) (raised Bytes r.h.tag.number size (words_at words cpu)) len below
+      record { row = begins_allocation row; of_kind = refl; begins = λ after. refl; safe = λ old new becomes. safe-begins_allocation k tag _ _ old new checked row becomes })
+  leads_step (AddBytes size) r = rw r.held (leads_cpu k StepKind.AddBytes m.hands words runs (tail_of m.places lists) cpu (with_bytes size (Some r.h)) (raised Bytes r.h.tag.number size (words_at words cpu)) len below
       (let row : AddsBytes size r.h (cpu_part (0 + cpu) (hand_at m cpu) (words_at words cpu) (runs (0 + cpu))) (cpu_part (0 + cpu) (with_bytes size (Some r.h)) (raised Bytes r.h.tag.number size (words_at words cpu)) (runs (0 + cpu))) =
       record { held = r.held; opening = r.holds.opening; none_yet = r.holds.none_yet; some = r.holds.some; fits = r.holds.fits; after = refl } in
-      record { row = adds_bytes row; safe = λ old new becomes. safe-adds_bytes k size r.h _ _ old new checked row becomes }))
-  leads_step AddCall r = rw r.held (leads_cpu k m.hands words runs (tail_of m.places lists) cpu (with_call (Some r.h)) (raised Calls r.h.tag.number 1 (words_at words cpu)) len below
+      record { row = adds_bytes row; of_kind = refl; begins = λ after. refl; safe = λ old new becomes. safe-adds_bytes k size r.h _ _ old new checked row becomes }))
+  leads_step AddCall r = rw r.held (leads_cpu k StepKind.AddCall m.hands words runs (tail_of m.places lists) cpu (with_call (Some r.h)) (raised Calls r.h.tag.number 1 (words_at words cpu)) len below
       (let row : AddsCall r.h (cpu_part (0 + cpu) (hand_at m cpu) (words_at words cpu) (runs (0 + cpu))) (cpu_part (0 + cpu) (with_call (Some r.h)) (raised Calls r.h.tag.number 1 (words_at words cpu)) (runs (0 + cpu))) =
       record { held = r.held; settled = r.holds.settled; counted = r.holds.counted; room = r.holds.room; after = refl } in
-      record { row = adds_call row; safe = λ old new becomes. safe-adds_call k r.h _ _ old new checked row becomes }))
-  leads_step (SubtractBytes bytes) r = rw r.held (leads_cpu k m.hands words runs (tail_of m.places lists) cpu (less_bytes bytes (Some r.h)) (lowered Bytes r.h.tag.number bytes (words_at words cpu)) len below
+      record { row = adds_call row; of_kind = refl; begins = λ after. refl; safe = λ old new becomes. safe-adds_call k r.h _ _ old new checked row becomes }))
+  leads_step (SubtractBytes bytes) r = rw r.held (leads_cpu k StepKind.SubBytes m.hands words runs (tail_of m.places lists) cpu (less_bytes bytes (Some r.h)) (lowered Bytes r.h.tag.number bytes (words_at words cpu)) len below
       (let row : SubtractsBytes bytes r.h (cpu_part (0 + cpu) (hand_at m cpu) (words_at words cpu) (runs (0 + cpu))) (cpu_part (0 + cpu) (less_bytes bytes (Some r.h)) (lowered Bytes r.h.tag.number bytes (words_at words cpu)) (runs (0 + cpu))) =
       record { held = r.held; settled = r.holds.settled; within = r.holds.within; after = refl } in
-      record { row = subtracts_bytes row; safe = λ old new becomes. safe-subtracts_bytes k bytes r.h _ _ old new checked row becomes }))
-  leads_step SubtractCall r = rw r.held (leads_cpu k m.hands words runs (tail_of m.places lists) cpu (without_call r.h) (lowered Calls r.h.tag.number 1 (words_at words cpu)) len below
+      record { row = subtracts_bytes row; of_kind = refl; begins = λ after. refl; safe = λ old new becomes. safe-subtracts_bytes k bytes r.h _ _ old new checked row becomes }))
+  leads_step SubtractCall r = rw r.held (leads_cpu k StepKind.SubCall m.hands words runs (tail_of m.places lists) cpu (without_call r.h) (lowered Calls r.h.tag.number 1 (words_at words cpu)) len below
       (let row : SubtractsCall r.h (cpu_part (0 + cpu) (hand_at m cpu) (words_at words cpu) (runs (0 + cpu))) (cpu_part (0 + cpu) (without_call r.h) (lowered Calls r.h.tag.number 1 (words_at words cpu)) (runs (0 + cpu))) =
       record { held = r.held; settled = r.holds.settled; some = r.holds.some; bytes_first = r.holds.bytes_first; after = refl } in
-      record { row = subtracts_call row; safe = λ old new becomes. safe-subtracts_call k r.h _ _ old new checked row becomes }))
+      record { row = subtracts_call row; of_kind = refl; begins = λ after. refl; safe = λ old new becomes. safe-subtracts_call k r.h _ _ old new checked row becomes }))
   leads_step (Write key will next) r =
-      leads_place k m.hands words runs m.places lists cpu key next (words_at words cpu) will len below r.0
+      leads_place k StepKind.WriteCell m.hands words runs m.places lists cpu key next (words_at words cpu) will len below r.0
       (let row : WritesPlace (cpu_part (0 + cpu) (hand_at m cpu) (words_at words cpu) (runs (0 + cpu))) (cpu_part (0 + cpu) next (words_at words cpu) (runs (0 + cpu))) (held_at m.places key) will =
       record { place_fits = r.1.place_fits; hand_fits = r.1.hand_fits; stays = r.1.stays; settled = inr r.1.settled; after = refl } in
-      record { row = writes_place row; safe = λ old new becomes. safe-writes_place k (0 + key) _ _ (held_at m.places key) will old new checked row becomes })
+      record { row = writes_place row; of_kind = refl; begins = λ after. refl; safe = λ old new becomes. safe-writes_place k (0 + key) _ _ (held_at m.places key) will old new checked row becomes })
   leads_step (GoIn section) r = elim r [ ]
   leads_step (GoOut section) r = elim r [ ]
 

@@ -5,3 +5,4 @@ pub mod Laws
 pub mod Release
 pub mod Told
 pub mod ReadOn
+pub mod Kinds

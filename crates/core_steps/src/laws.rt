@@ -1,7 +1,7 @@
 //! Laws of every core. The functions do nothing: what they promise are facts of the definitions.
 
 ghost use Rattle.std.specs.Prelude.{◌≡◌, ◌≢◌, ℕ, ◌+◌, ◌-◌, ◌*◌, ◌<◌, ◌==◌, if◌then◌else◌, nat_lt, ◌≤◌, List, [], ◌∷◌, Some, None, true, false, length, replicate};
-ghost use Rattle.tag_model.specs.Laws.{live_of};
+ghost use Rattle.tag_model.specs.Laws.{Quiet, live_of};
 ghost use Rattle.tag_model.specs.Reference.{live_total};
 ghost use Rattle.tag_model.specs.Wrap.{wrap};
 ghost use Rattle.tag_model.specs.declared.state.Hand.{Hand};
@@ -15,7 +15,8 @@ ghost use Rattle.module_ops.specs.declared.op.ManagerOp.{ManagerOp};
 ghost use Rattle.module_ops.specs.declared.op.ManagerOp.TheVariants.{Load};
 ghost use Rattle.module_area.specs.declared.entry.Entry.{Entry};
 ghost use Rattle.tag_model.specs.StepRules.{dead_ids};
-ghost use Rattle.core_list.specs.ListState.{loaded_entry, records_of, sweep_steps, tags_of};
+ghost use Rattle.core_list.specs.ListState.{loaded_entry, next_of, records_of, sweep_steps, tags_of};
+ghost use Rattle.core_list.specs.declared.list.Next.TheVariants.{Nothing};
 ghost use Rattle.module_ops.specs.Modules.{inside_at};
 ghost use Rattle.core_steps.specs.declared.op.Actor.TheVariants as actor;
 ghost use Rattle.cpu_ops.specs.Machine.{hand_at, held_at, waiting_at, step_count, moves_of_step};
@@ -74,4 +75,9 @@ pub fn step_counts_hold_among_others()
 pub fn an_idle_core_is_quiet()
     ensures hands { (s : CoreState) → IsCore s → IsIdle s → (cpu : ℕ) → cpu < s.shape.cpus → hand_at s.machine cpu ≡ None }
     ensures totals { (s : CoreState) (kind : Kind) (t : ℕ) → IsCore s → IsIdle s → total_of s.words kind t ≡ wrap (live_total kind t (live_of (word_state s))) }
+    // What is live fits a word, so the sums are exact.
+    ensures exact { (s : CoreState) (kind : Kind) (t : ℕ) → IsCore s → IsIdle s → total_of s.words kind t ≡ live_total kind t (live_of (word_state s)) }
+    ensures quiet { (s : CoreState) → IsCore s → IsIdle s → Quiet (word_state s) }
+    // Where no op of the manager is under way the sweep reads nothing and releases nothing.
+    ensures at_rest { (s : CoreState) → IsCore s → s.modules.manager.under_way ≡ false → next_of s.modules.list.sweep ≡ Nothing }
 {}

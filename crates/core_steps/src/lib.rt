@@ -7,5 +7,6 @@ pub mod laws;
 pub mod machine;
 pub mod op;
 pub mod run;
+pub mod step_table;
 #[cfg(test)]
 mod tests;

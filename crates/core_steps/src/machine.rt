@@ -1,6 +1,6 @@
 //! The core: every CPU's words, hand and ops, every place, and the modules, on plain vectors.
 
-ghost use Rattle.std.specs.Prelude.{All, [], ◌≡◌, ℕ, ◌*◌, ◌+◌, ◌<◌, ◌≤◌, ◌↔◌, length, min, replicate, MatchOption, IfOk, OnOk, OnErr, Some, None, List, IsTrue};
+ghost use Rattle.std.specs.Prelude.{All, [], ◌≡◌, ℕ, ◌*◌, ◌+◌, ◌<◌, ◌≤◌, ◌↔◌, length, min, replicate, MatchOption, IfOk, IsOkAnd, OnOk, OnErr, Some, None, List, IsTrue};
 ghost use Rattle.tag_model.specs.Shape.{IsChecked};
 ghost use Rattle.tag_model.specs.StepRules.{StepsWith};
 ghost use Rattle.tag_model.specs.Laws.{Safe};
@@ -68,7 +68,14 @@ impl Core {
     ghost use Rattle.cpu_ops.specs.MayQueue.{IsOp};
     ghost use Rattle.module_ops.specs.Modules.{IsManagerOp};
     ghost use Rattle.core_steps.specs.ReadOn.{TellsNothing, after_manager};
-    ghost use Rattle.core_steps.specs.Release.{IfReleases};
+    ghost use Rattle.core_steps.specs.Laws.{IsIdle};
+    ghost use Rattle.core_steps.specs.Release.{IfKept, IfReleases, IsKept, TellsRelease};
+    ghost use Rattle.module_area.specs.Entries.{entry_of};
+    ghost use Rattle.module_area.specs.declared.entry.Entry.{Entry};
+    ghost use Rattle.module_ops.specs.Modules.{cause_of};
+    ghost use Rattle.tag_model.specs.Laws.{live_of};
+    ghost use Rattle.tag_model.specs.Reference.{live_total};
+    ghost use Rattle.tag_model.specs.declared.state.Kind.{Kind};
     ghost use Rattle.core_steps.specs.Told.{EventFits};
     ghost use Rattle.core_steps.specs.StepsLeft.{steps_left, cpu_steps_left, manager_steps_left};
     ghost use Rattle.core_steps.specs.Moved.{HasMoved, moved_on};
@@ -160,6 +167,11 @@ impl Core {
         ensures left { OnOk result (steps_left self.new actor < steps_left self.old actor) }
         // A module is released only where it is dead, and no place and no hand names it.
         ensures released { IfOk result (IfReleases self.old) }
+        // A module that is gone was told as released.
+        ensures gone { (id : ℕ) (e : Entry) → entry_of self.old.modules.list.area.entries id ≡ Some e → entry_of self.new.modules.list.area.entries id ≡ None → IsOkAnd result (TellsRelease e.section) }
+        // A range is kept exactly where the last CPU's word of a tag is read, and its sum isn't 0.
+        ensures kept { IfOk result (IfKept self.old) }
+        ensures keeps { (section index : ℕ) (kind : Kind) (sum : ℕ) → actor ≡ Actor.Manager → IsKept self.old section index kind sum → result ≡ Ok (Event.Kept section index kind sum (cause_of self.old.modules.manager.ops)) }
         // What is told names a module's section, and one of its tags.
         ensures told { IfOk result (EventFits self.old.sections) }
         // Words stay the sums of the moves.
@@ -177,6 +189,9 @@ impl Core {
         ensures row { (reads : ℕ) → OnOk result (StepsWith self.old.shape (state_after reads self.old) (state_after (reads + reads_of self.old actor) self.new)) }
         ensures left { OnOk result (steps_left self.new actor < steps_left self.old actor) }
         ensures released { IfOk result (IfReleases self.old) }
+        ensures gone { (id : ℕ) (e : Entry) → entry_of self.old.modules.list.area.entries id ≡ Some e → entry_of self.new.modules.list.area.entries id ≡ None → IsOkAnd result (TellsRelease e.section) }
+        ensures kept { IfOk result (IfKept self.old) }
+        ensures keeps { (section index : ℕ) (kind : Kind) (sum : ℕ) → actor ≡ Actor.Manager → IsKept self.old section index kind sum → result ≡ Ok (Event.Kept section index kind sum (cause_of self.old.modules.manager.ops)) }
         ensures told { IfOk result (EventFits self.old.sections) }
         ensures moved { (moves : List Move) → HasMoved self.old moves → OnOk result (self.new ≡ moved_on self.old actor moves) }
     {
@@ -296,6 +311,9 @@ impl Core {
         // They are what is counted under the tag.
         ensures counted_bytes { result.0 ≡ wrap (sum_by (counted Bytes tag) (word_state self.now)) }
         ensures counted_calls { result.1 ≡ wrap (sum_by (counted Calls tag) (word_state self.now)) }
+        // Where no actor has an op, they are the bytes and the references of the live list.
+        ensures live_bytes { IsIdle self.now → result.0 ≡ live_total Bytes tag (live_of (word_state self.now)) }
+        ensures live_calls { IsIdle self.now → result.1 ≡ live_total Calls tag (live_of (word_state self.now)) }
     {
         let words = self.words.as_slice();
         (
