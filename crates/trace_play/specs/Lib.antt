@@ -8,4 +8,5 @@ pub mod Answer
 pub mod Left
 pub mod Alone
 pub mod Fits
+pub mod Fitting
 pub mod Rows

@@ -2,13 +2,14 @@
 use Rattle.std.specs.Prelude.{ℕ, ◌+◌, ◌*◌, ◌==◌, Bool, Option, Some, None, List, [], ◌∷◌, ◌++◌, drop, fold, slice_get, if◌then◌else◌}
 use Rattle.std.specs.List.{find}
 use Rattle.tag_model.specs.declared.state.Tag.{Tag}
+use Rattle.tag_model.specs.declared.state.Held.TheVariants as held
 use Rattle.tag_model.specs.Moves.{Move}
 use Rattle.tag_model.specs.RefMoves.{close_moves, split_moves, trim_moves}
 use Rattle.module_area.specs.declared.entry.Entry.{Entry}
 use Rattle.module_area.specs.Entries.{is_loaded_as}
 use Rattle.split_swap.specs.Parts.{parts_in}
 use Rattle.slab_cache.specs.Slabs.{NodeState}
-use Rattle.slab_cache.specs.Storage.{Storage, home_of, has_cell}
+use Rattle.slab_cache.specs.Storage.{Storage, Pages, Object, Uncounted, home_of, has_cell}
 use Rattle.slab_cache.specs.Giving.{Given, given_block, given_object}
 use Rattle.slab_cache.specs.Homing.{Taken, come_home}
 use Rattle.trace.specs.declared.traces.TraceOp.{TraceOp}
@@ -73,8 +74,14 @@ is_home given w = home_of given == cpu_of w
 abbrev pub with_taken : Taken → WorkerState → WorkerState
 with_taken taken w = with_moves taken.moves (with_node taken.node w)
 
+-- storage whose reference is closed
+abbrev pub closed : Storage → Storage
+closed (Pages block) = Pages (record block { holds = held.None })
+closed (Object home frame place vector holds) = Object home frame place vector held.None
+closed (Uncounted home frame place) = Uncounted home frame place
+
 abbrev pub sent_home : Storage → WorkerState → WorkerState
-sent_home given w = record w { seat = record w.seat { returning = w.seat.returning ++ given ∷ [] } }
+sent_home given w = record w { seat = record w.seat { returning = w.seat.returning ++ closed given ∷ [] } }
 
 -- storage of this CPU's node comes home at once, and that of others at the barrier
 abbrev pub given_back : Content → WorkerState → WorkerState
