@@ -32,3 +32,5 @@ pub mod ReadOn
 pub mod ManagerKept
 pub mod Stepping
 pub mod StopRun
+pub mod LivePlaces
+pub mod RefOps

@@ -251,7 +251,7 @@ each_call : (b : Bool) (n : ℕ) → n * cond {A = ℕ} b 1 0 ≡ cond b n 0
 each_call true n = omega arith
 each_call false n = omega arith
 
-counted_is : (x : Held) → is_counted x ≡ true → (tag : Tag) × (size : ℕ) × (x ≡ held.Counted tag size)
+pub counted_is : (x : Held) → is_counted x ≡ true → (tag : Tag) × (size : ℕ) × (x ≡ held.Counted tag size)
 counted_is held.None h = cc
 counted_is held.Empty h = cc
 counted_is (held.Counted tag size) h = (tag, size, refl)

@@ -29,7 +29,7 @@ pub new_key_means : (key parts first : ℕ) → is_new_key key parts first ≡ t
 new_key_means key parts first h =
     let both = and_parts (nat_le first key) (nat_lt (key + 1) (first + parts)) h in (leb-true first key both.0, ltb-true (key + 1) (first + parts) both.1)
 
-new_key_from : (key parts first : ℕ) → first ≤ key → key + 1 < first + parts → is_new_key key parts first ≡ true
+pub new_key_from : (key parts first : ℕ) → first ≤ key → key + 1 < first + parts → is_new_key key parts first ≡ true
 new_key_from key parts first low high = and_from _ _ (le-leb first key low) (lt-ltb (key + 1) (first + parts) high)
 
 pub part_later : (key first part : ℕ) → part ≢ 0 → part_key key first part ≡ first + (part - 1)

@@ -6,3 +6,4 @@ pub mod Release
 pub mod Told
 pub mod ReadOn
 pub mod Kinds
+pub mod RefOps

@@ -1,6 +1,6 @@
 //! Laws of every core. The functions do nothing: what they promise are facts of the definitions.
 
-ghost use Rattle.std.specs.Prelude.{◌≡◌, ◌≢◌, ℕ, ◌+◌, ◌-◌, ◌*◌, ◌<◌, ◌==◌, if◌then◌else◌, nat_lt, ◌≤◌, List, [], ◌∷◌, Some, None, true, false, length, replicate};
+ghost use Rattle.std.specs.Prelude.{◌≡◌, ◌≢◌, ℕ, ◌+◌, ◌-◌, ◌*◌, ◌<◌, ◌==◌, if◌then◌else◌, nat_lt, ◌≤◌, List, [], ◌∷◌, Some, None, true, false, length, replicate, IsTrue};
 ghost use Rattle.tag_model.specs.Laws.{Quiet, live_of};
 ghost use Rattle.tag_model.specs.Reference.{live_total};
 ghost use Rattle.tag_model.specs.Wrap.{wrap};
@@ -22,7 +22,9 @@ ghost use Rattle.core_steps.specs.declared.op.Actor.TheVariants as actor;
 ghost use Rattle.cpu_ops.specs.Machine.{hand_at, held_at, waiting_at, step_count, moves_of_step};
 ghost use Rattle.core_steps.specs.CoreState.{CoreState, IsCore, refused, stepped, word_state, total_of};
 ghost use Rattle.core_steps.specs.declared.op.Actor.{Actor};
+ghost use Rattle.core_steps.specs.RefOps.{MayDoIf, done_if, ref_op};
 ghost use Rattle.core_steps.specs.StepsLeft.{steps_left};
+ghost use Rattle.tag_model.specs.ListMachine.{in_order};
 ghost use Rattle.core_steps.specs.Laws.{Begins, IsIdle, SameQueue, waits_for, after_steps, moves_of_run, call_move};
 
 /// An op whose first step isn't refused takes just as many steps as are said of it, none of which is refused, and
@@ -80,4 +82,12 @@ pub fn an_idle_core_is_quiet()
     ensures quiet { (s : CoreState) → IsCore s → IsIdle s → Quiet (word_state s) }
     // Where no op of the manager is under way the sweep reads nothing and releases nothing.
     ensures at_rest { (s : CoreState) → IsCore s → s.modules.manager.under_way ≡ false → next_of s.modules.list.sweep ≡ Nothing }
+{}
+
+/// An op whose first step isn't refused may be done by the list machine. After its last step it has made of the core's
+/// references what the list machine makes of those before its first.
+pub fn ops_are_those_of_the_list_machine()
+    ensures in_order { (s : CoreState) → IsTrue (in_order (live_of (word_state s))) }
+    ensures may { (s : CoreState) (cpu : ℕ) (op : CpuOp) (ops : List CpuOp) → IsCore s → Begins s cpu op ops → MayDoIf (ref_op (inside_at s.modules cpu) op) (live_of (word_state s)) }
+    ensures done { (s : CoreState) (cpu : ℕ) (op : CpuOp) (ops : List CpuOp) → IsCore s → Begins s cpu op ops → live_of (word_state (after_steps s cpu (step_count op))) ≡ done_if (ref_op (inside_at s.modules cpu) op) (live_of (word_state s)) }
 {}
