@@ -3,3 +3,6 @@ pub mod Gone
 pub mod Clean
 pub mod Tying
 pub mod Unload
+pub mod Enter
+pub mod Load
+pub mod Tells

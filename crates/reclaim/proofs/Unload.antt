@@ -1,5 +1,5 @@
 -- An unload: what its sweep comes to.
-use Rattle.std.proofs.Common.{◌≡◌, ◌≢◌, ℕ, ◌+◌, ◌*◌, ◌<◌, ◌≤◌, ◌==◌, ◌&&◌, ◌||◌, List, [], ◌∷◌, ◌++◌, length, filter, map, All, Option, None, Some, IsSomeAnd, slice_get, refl, sym, ap, ◌∙◌, subst, arith, Bool, true, false, not, cond, eqb-true, eq-eqb, ne_eqb}
+use Rattle.std.proofs.Common.{◌≡◌, ◌≢◌, ℕ, ◌+◌, ◌*◌, ◌<◌, ◌≤◌, ◌==◌, ◌&&◌, ◌||◌, List, [], ◌∷◌, ◌++◌, length, filter, map, All, Option, None, Some, IsSomeAnd, Result, Ok, Err, IfOk, IsOk, OnErr, MatchOption, slice_get, refl, sym, ap, ◌∙◌, subst, arith, Bool, true, false, not, cond, eqb-true, eq-eqb, ne_eqb}
 use Rattle.std.specs.List.{list_any}
 use Rattle.std.proofs.lemmas.Bool.{and_from, and_parts, or_left, or_right, or_parts, cond-true, cond-false, cond_both, false≢true, both_ways}
 use Rattle.std.proofs.lemmas.List.Elements.{All-cons, All-nil, All-head, All-tail, All-weaker, All-map}
@@ -30,7 +30,10 @@ use Rattle.module_list.proofs.At.{record_at}
 use Rattle.core_list.specs.ListState.{ListState, dead_list, listed, record_of}
 use Rattle.core_list.proofs.Listed.{listed_dead, record_found}
 use Rattle.core_list.proofs.Split.{book_entry_at, book_rises, records_at, records_changed}
+use Rattle.reclaim.specs.declared.answers.Reclaim.{Reclaim}
 use Rattle.reclaim.specs.declared.answers.Reclaim.TheVariants.{Kept, Released}
+use Rattle.reclaim.specs.declared.answers.UnloadError.{UnloadError}
+use Rattle.reclaim.specs.Refusals.{refused, unload_refusal}
 use Rattle.std.proofs.lemmas.Option.{none-some}
 use Rattle.module_area.proofs.EntryLemmas.{find_some}
 use Rattle.tag_rule.specs.Listed.{is_unused}
@@ -243,3 +246,16 @@ gone_as old l new id p is_old first is swept e found =
     let same = sym (id_of l id e found_l) in
     subst (λ (x : LockedShown). Unloaded e x new Released) is_old
     (unloaded_gone l new e p (subst (λ i. UnloadSwept l i e p) same (swept e found_l)) first (is ∙ ap (λ i. released i (with_part p (marked i l))) same))
+
+-- whatever it answers, the table is the same
+pub unload_board : (old new : LockedShown) (id : ℕ) (answer : Result Reclaim UnloadError) → MatchOption (unload_refusal id old.area.entries) (IsOk answer) (λ why. answer ≡ Err why)
+    → IfOk answer (λ a. (e : Entry) → entry_of old.area.entries id ≡ Some e → Unloaded e old new a) → OnErr answer (new ≡ old) → new.board ≡ old.board
+unload_board old new id (Err why) told unloaded err = ap (λ (l : LockedShown). l.board) err
+unload_board old new id (Ok a) told unloaded err = go (entry_of old.area.entries id) refl told
+  where
+    go : (o : Option Entry) → entry_of old.area.entries id ≡ o → MatchOption (refused o) (IsOk {T = Reclaim} {E = UnloadError} (Ok a)) (λ why. ◌≡◌ {A = Result Reclaim UnloadError} (Ok a) (Err why)) → new.board ≡ old.board
+    go None is told = absurd (ok_err told)
+      where
+        ok_err : {why : UnloadError} → ◌≡◌ {A = Result Reclaim UnloadError} (Ok a) (Err why) → ⊥
+        ok_err e = cc
+    go (Some e) is told = (unloaded e is).board

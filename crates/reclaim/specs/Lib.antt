@@ -2,4 +2,6 @@ pub mod State
 pub mod Steps
 pub mod Sweeps
 pub mod Refusals
+pub mod Loading
+pub mod Telling
 pub mod Tied

@@ -3,12 +3,20 @@
 
 pub mod answers;
 pub mod cleaning;
+pub mod entering;
+pub mod listed;
+pub mod loading;
 pub mod locked;
 mod stepping;
 mod sweeping;
+pub mod telling;
 pub mod unloading;
 
 pub use answers::{NotLoaded, Reclaim, UnloadError};
 pub use cleaning::clean_locked;
+pub use entering::{enter_locked, leave_locked, loaded_locked};
+pub use listed::{Listed, ModuleList};
+pub use loading::load_locked;
 pub use locked::Locked;
+pub use telling::tag_of_locked;
 pub use unloading::unload_locked;
