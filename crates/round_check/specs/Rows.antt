@@ -168,3 +168,7 @@ unloaded_and_outside = Load 1 1 ∷ Round (on 2 0 (Unload 1) ∷ on 3 1 (Leave 1
 -- `unload` twice in a round
 abbrev pub unloaded_twice : List Item
 unloaded_twice = Load 1 1 ∷ Round (on 2 0 (Unload 1) ∷ on 3 1 (Unload 1) ∷ []) ∷ []
+
+-- No trace leaves this: no module is loaded, CPUs are inside some, and each has a hook of module 1 out.
+abbrev pub stray : List ℕ → Walk
+stray inside = record few { cpus = replicate 2 (record { hooks = 1 ∷ []; inside = inside }); round = 1 }

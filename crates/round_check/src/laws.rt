@@ -1,6 +1,6 @@
 //! What a checked trace's rounds do not do.
 
-ghost use Rattle.std.specs.Prelude.{◌≡◌, ◌≢◌, ◌<◌, ◌+◌, ◌-◌, ℕ, List, true, Ok, Err, IsSome};
+ghost use Rattle.std.specs.Prelude.{◌≡◌, ◌≢◌, ◌<◌, ◌+◌, ◌-◌, ℕ, List, [], ◌∷◌, true, Ok, Err, IsSome};
 ghost use Rattle.input_form.specs.declared.code.Code.TheVariants as code;
 ghost use Rattle.trace.specs.declared.traces.OnOp.{OnOp};
 ghost use Rattle.trace.specs.declared.traces.Trace.{Trace};
@@ -12,8 +12,8 @@ ghost use Rattle.round_check.specs.declared.keys.Turn.{Turn};
 ghost use Rattle.round_check.specs.Keys.{key_at, part_keys};
 ghost use Rattle.round_check.specs.Rounds.{names_key, IsRound, IsLine};
 ghost use Rattle.round_check.specs.Rows.{verdict, shared_and_unbound, object_and_unbound, trimmed_and_object, orders_and_trimmed, orders_differ, order_not_below, keys_past_the_last, keys_to_the_last, new_bound_and_shared, two_new_bound, split_onto_itself, pages_not_below, entered_and_busy, unloaded_and_absent, never_loaded, entered_twice, left_while_hooked, two_inside, hooked_too_deep, outside_and_deep, unhooked_twice, loaded_twice};
-ghost use Rattle.round_check.specs.Rows.{both_shared, unbound_and_shared, both_unbound, both_objects, both_trimmed, shared_and_bound, split_of_shared_and_unbound, trim_of_shared_and_unbound, shared_two_lines_before, freed_in_the_next_round, trimmed_and_not_below, unloaded_and_outside, unloaded_twice};
-ghost use Rattle.round_check.specs.Walk.{rounds_of};
+ghost use Rattle.round_check.specs.Rows.{both_shared, unbound_and_shared, both_unbound, both_objects, both_trimmed, shared_and_bound, split_of_shared_and_unbound, trim_of_shared_and_unbound, shared_two_lines_before, freed_in_the_next_round, trimmed_and_not_below, unloaded_and_outside, unloaded_twice, stray};
+ghost use Rattle.round_check.specs.Walk.{enter_module, leave_module, unload_module, rounds_of};
 
 /// In a round of a checked trace no two CPUs name one key, a key that is freed was bound, and a module that is
 /// unloaded is neither entered nor left.
@@ -69,5 +69,8 @@ pub fn refusals_of_a_line_in_order()
     ensures trimmed_before_orders { verdict trimmed_and_not_below ≡ Err (3, code.Trimmed 1) }
     ensures unload_before_leave { verdict unloaded_and_outside ≡ Err (3, code.UnloadShared 1) }
     ensures unload_again { verdict unloaded_twice ≡ Err (3, code.UnloadShared 1) }
+    ensures not_loaded_before_inside { enter_module (stray (1 ∷ [])) 0 1 ≡ Err (code.NotLoaded 1) }
+    ensures not_loaded_before_busy { unload_module (stray (1 ∷ [])) 1 ≡ Err (code.NotLoaded 1) }
+    ensures not_inside_before_hooked { leave_module (stray []) 0 1 ≡ Err (code.NotInside 1) }
     ensures past_the_last { (keys : List KeyState) (turn : Turn) (key order first count : ℕ) → 65535 < first + count - 1 → part_keys keys turn key order first count ≡ Err code.Keys }
 {}

@@ -19,7 +19,15 @@ fn refusal(rt: &impl Abort, alloc: Global, text: &[u8]) -> Option<TextError> {
 
 #[test]
 fn bodies(rt: HostRuntime) -> Result<(), Fail> {
-    let cases: [(&[u8], u32, Code); 12] = [
+    let cases: [(&[u8], u32, Code); 20] = [
+        (b"on 9\n", 7, Code::NoRound),
+        (b"round\non 9 free\n", 8, Code::Word),
+        (b"round\nprint\non 0 free 1\n", 9, Code::NoRound),
+        (b"round\non 4 swap 2 2\n", 8, Code::Cpu),
+        (b"round\non 3 swap 2 2\n", 8, Code::Same),
+        (b"load kernel\n", 7, Code::Module),
+        (b"round\non 0 page 1 11\n", 8, Code::Number),
+        (b"round\ntag mm/slub.c 2 slab\n", 8, Code::Order),
         (
             b"round\non 0 page 1 0\non 1 free 1\n",
             9,

@@ -65,27 +65,6 @@ fn refused_heads(rt: HostRuntime) {
 // The body begins at line 4.
 const HEAD: &[u8] = b"memprof-trace 1.0\nkernel\ntag mm/slub.c 1 slab\n";
 
-#[test]
-fn bodies(rt: HostRuntime) -> Result<(), Fail> {
-    let cases: [(&[u8], u32, Code); 8] = [
-        (b"on 9\n", 4, Code::NoRound),
-        (b"round\non 9 free\n", 5, Code::Word),
-        (b"round\nprint\non 0 free 1\n", 6, Code::NoRound),
-        (b"round\non 4 swap 2 2\n", 5, Code::Cpu),
-        (b"round\non 3 swap 2 2\n", 5, Code::Same),
-        (b"load kernel\n", 4, Code::Module),
-        (b"round\non 0 page 1 11\n", 5, Code::Number),
-        (b"round\ntag mm/slub.c 2 slab\n", 5, Code::Order),
-    ];
-    for (body, line, code) in cases {
-        let mut text = Vec::from_slice(rt.alloc(), HEAD)?;
-        text.extend_from_slice(body)?;
-        let wanted = TextError::Refused { line, code };
-        assert_eq!(rt; refusal(&rt, rt.alloc(), &text), Some(wanted));
-    }
-    Ok(())
-}
-
 // Of the lines that print, of either kind, an input has 64 at most.
 #[test]
 fn the_most_prints(rt: HostRuntime) -> Result<(), Fail> {

@@ -61,3 +61,15 @@ unfolding part_keys
 returns-clause-past_the_last c = λ keys turn key order first count past.
     let test : nat_le (first + count - 1) 65535 ≡ false = grind (arith, nat_tests) in
     rw (test) (refl)
+
+pub returns-clause-not_loaded_before_inside : goal.returns-clause-not_loaded_before_inside
+unfolding own_key bound_key free_key take_key give_key part_keys split_key swap_keys trim_key enter_module leave_module unload_module hook_tag unhook_tag load_module walk_op walk_item
+returns-clause-not_loaded_before_inside c = refl
+
+pub returns-clause-not_loaded_before_busy : goal.returns-clause-not_loaded_before_busy
+unfolding own_key bound_key free_key take_key give_key part_keys split_key swap_keys trim_key enter_module leave_module unload_module hook_tag unhook_tag load_module walk_op walk_item
+returns-clause-not_loaded_before_busy c = refl
+
+pub returns-clause-not_inside_before_hooked : goal.returns-clause-not_inside_before_hooked
+unfolding own_key bound_key free_key take_key give_key part_keys split_key swap_keys trim_key enter_module leave_module unload_module hook_tag unhook_tag load_module walk_op walk_item
+returns-clause-not_inside_before_hooked c = refl
