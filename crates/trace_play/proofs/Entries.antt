@@ -16,7 +16,7 @@ pub second_true : (a b : Bool) → T (a && b) → T b
 second_true true b p = p
 second_true false b p = absurd p
 
-less : (o : Ordering) → T (is_lt o) → o ≡ Less
+pub less : (o : Ordering) → T (is_lt o) → o ≡ Less
 less Less p = refl
 less Equal p = absurd p
 less Greater p = absurd p
@@ -101,7 +101,7 @@ module _ {X : Type 0} where
       twice true false o g = let no : ⊥ = cc (g refl) in absurd no
       twice false b o g = refl
 
-  find_below : (q : ℕ) (es : List (ℕ × X)) → T (below_all nat_cmp q es) → find nat_cmp q es ≡ None
+  pub find_below : (q : ℕ) (es : List (ℕ × X)) → T (below_all nat_cmp q es) → find nat_cmp q es ≡ None
   find_below q [] h = refl
   find_below q (e ∷ es) h = ap (λ r. cond (is_eq r) (Some e.1) (find nat_cmp q es)) (less _ (first_true _ _ h)) ∙ find_below q es (second_true _ _ h)
 

@@ -45,7 +45,7 @@ or_right false b e = e
 -- ---- numbers
 
 -- 2 ^ whole is so many times 2 ^ order
-in_parts : (whole order : ℕ) → order < whole → 2 ^ whole ≡ 2 ^ (whole - order) * 2 ^ order
+pub in_parts : (whole order : ℕ) → order < whole → 2 ^ whole ≡ 2 ^ (whole - order) * 2 ^ order
 in_parts whole order below = ap (λ n. 2 ^ n) (let e : whole ≡ (whole - order) + order = omega arith in e) ∙ pow-add 2 (whole - order) order
 
 parts_are : (whole order : ℕ) → order < whole → 2 ^ whole / 2 ^ order ≡ 2 ^ (whole - order)
@@ -83,10 +83,10 @@ some_found bound entry what e h = by what entry (subst (λ b. IsBoundAs b entry)
     by (kept.Block block) None h = absurd h
     by what (Some content) h = refl
 
-content_is : (key : ℕ) (live : Live) (content : Content) → entry_at key live ≡ Some content → content_at key live ≡ content
+pub content_is : (key : ℕ) (live : Live) (content : Content) → entry_at key live ≡ Some content → content_at key live ≡ content
 content_is key live content e = ap (λ o. unwrap_or o (Nothing 0)) e
 
-order_is : (order bytes : ℕ) (content : Content) → IsBlockOf order bytes content → order_of content ≡ order
+pub order_is : (order bytes : ℕ) (content : Content) → IsBlockOf order bytes content → order_of content ≡ order
 order_is order bytes (Nothing whole) h = h
 order_is order bytes (Stored (Pages block)) h = h.0
 order_is order bytes (Stored (Object home frame place vector holds)) h = absurd h

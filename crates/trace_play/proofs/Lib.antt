@@ -7,3 +7,8 @@ pub mod Told
 pub mod KeysFit
 pub mod RoundFits
 pub mod TraceFits
+pub mod LiveSums
+pub mod NodeLemmas
+pub mod WorkerSound
+pub mod MachineSound
+pub mod CellsApart

@@ -63,13 +63,16 @@ module_live m (op.Enter section) = refl
 module_live m (op.Leave section) = refl
 module_live m (op.Unload section) = refl
 
+pub modules_live : (ops : List OnOp) (m : Machine) → (modules_done ops m).live ≡ m.live
+modules_live ops m = fold_keeps (λ (x : Machine). x.live ≡ m.live) module_done (λ x what h. module_live x what ∙ h) (map (λ (on : OnOp). on.op) ops) m refl
+
 -- behind the ops a round leaves the live list as it is
 pub round_live : (ops : List OnOp) (m : Machine) → (round_done ops m).live ≡ (cpus_done ops m).live
 round_live ops m =
     let left = cpus_done ops m in
     let marked = modules_done ops left in
     fold_keeps (λ (x : Machine). x.live ≡ marked.live) storage_home (λ x given h. h) (on_its_way marked) (none_on_its_way marked) refl
-    ∙ fold_keeps (λ (x : Machine). x.live ≡ left.live) module_done (λ x what h. module_live x what ∙ h) (map (λ (on : OnOp). on.op) ops) left refl
+    ∙ modules_live ops left
 
 pub item_rises : (trace : Trace) (top : Option ℕ) (what : Item) (p : Played) → T (rises p.machine.live) → T (rises (item_played trace top what p).machine.live)
 item_rises trace top (item.Round ops) p r = subst (λ (live : Live). T (rises live)) (sym (round_live ops p.machine)) (cpus_rise ops p.machine r)

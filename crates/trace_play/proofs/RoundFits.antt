@@ -49,7 +49,7 @@ owns_it on ops here next after fits fits_line are e rest key named =
 owner_cpu : (after : Walk) (cpu key : ℕ) → is_owner after cpu key ≡ true → ((key_at after.keys key).round ≡ after.round) × ((key_at after.keys key).cpu ≡ cpu)
 owner_cpu after cpu key h = let both = both_true (eqb (key_at after.keys key).round after.round) (eqb (key_at after.keys key).cpu cpu) h in (eqb-true _ _ both.0, eqb-true _ _ both.1)
 
-none_shared : (after : Walk) → NoneShared (is_owner after)
+pub none_shared : (after : Walk) → NoneShared (is_owner after)
 none_shared after one two differ key h =
     let is = owner_cpu after one key h in
     by (is_owner after two key) (λ g. differ (sym is.1 ∙ (owner_cpu after two key g).1))
@@ -60,13 +60,13 @@ none_shared after one two differ key h =
 
 -- ---- one CPU's ops of a round
 
-record PassFits (after : Walk) (mine : ℕ → Bool) (entries : List Entry) (ops : List TraceOp) (w : WorkerState) : Type 0 where
+pub record PassFits (after : Walk) (mine : ℕ → Bool) (entries : List Entry) (ops : List TraceOp) (w : WorkerState) : Type 0 where
   pub fits : AllFit entries ops w
   pub names : names_only mine entries ops w ≡ true
   pub agree : AgreeAt mine after.keys (all_done entries ops w).live
 
 module _ (after : Walk) (entries : List Entry) (cpu : ℕ) where
-  pass : (ops : List OnOp) (here : Walk) → All FitsOn ops → Fits here → walk_ops ops here ≡ Ok after → (w : WorkerState) → AgreeAt (is_owner after cpu) here.keys w.live → PassFits after (is_owner after cpu) entries (ops_of cpu ops) w
+  pub pass : (ops : List OnOp) (here : Walk) → All FitsOn ops → Fits here → walk_ops ops here ≡ Ok after → (w : WorkerState) → AgreeAt (is_owner after cpu) here.keys w.live → PassFits after (is_owner after cpu) entries (ops_of cpu ops) w
   pass [] here are fits e w a = let same : here ≡ after = cc in record { fits = tt; names = refl; agree = subst (λ (x : Walk). AgreeAt (is_owner after cpu) x.keys w.live) same a }
   pass (on ∷ ops) here are fits e w a =
       let first = first_line on ops here after e in

@@ -78,6 +78,23 @@ module _ (own : ℕ → ℕ → Bool) (ops : List OnOp) (m : Machine) (r : rises
   pub are_side_by_side : cpus_done ops m ≡ side_by_side own ops m
   are_side_by_side = goes_on (length m.seats) 0 m (omega arith) r refl (λ cpu _. refl)
 
+  -- what the turn of each CPU keeps
+  goes_along : (P : Machine → Type 0)
+      → ((cpu : ℕ) (now : Machine) → cpu < length m.seats → rises now.live ≡ true → now.area ≡ m.area → alone (own cpu) (worker_at cpu now) ≡ alone (own cpu) (worker_at cpu m) → NamesItsOwn (own cpu) ops now cpu → P now → P (cpu_done ops now cpu))
+      → (count from : ℕ) (now : Machine) → from + count ≤ length m.seats → rises now.live ≡ true → now.area ≡ m.area → ((cpu : ℕ) → from ≤ cpu → alone (own cpu) (worker_at cpu now) ≡ alone (own cpu) (worker_at cpu m)) → P now
+      → P (fold (cpu_done ops) now (range_with_len from count))
+  goes_along P step zero from now few up area begins h = h
+  goes_along P step (suc count) from now few up area begins h =
+      let is = done_is (own from) ops m now from r up area (begins from (omega arith)) (names from (omega arith)) in
+      goes_along P step count (from + 1) (cpu_done ops now from) (omega arith) (rises_behind (own from) ops now from up is.0) area
+      (λ later above. untouched_behind (own from) (own later) ops now from later up is.0 (λ e. omega arith) (apart later from (λ e. omega arith)) ∙ begins later (omega arith))
+      (step from now (omega arith) up area (begins from (omega arith)) is.0 h)
+
+  pub along : (P : Machine → Type 0)
+      → ((cpu : ℕ) (now : Machine) → cpu < length m.seats → rises now.live ≡ true → now.area ≡ m.area → alone (own cpu) (worker_at cpu now) ≡ alone (own cpu) (worker_at cpu m) → NamesItsOwn (own cpu) ops now cpu → P now → P (cpu_done ops now cpu))
+      → P m → P (cpus_done ops m)
+  along P step h = goes_along P step (length m.seats) 0 m (omega arith) r refl (λ cpu _. refl) h
+
   -- what a CPU has once its turn is over
   abbrev IsLeft : ℕ → Machine → Type 0
   IsLeft cpu now = alone (own cpu) (worker_at cpu now) ≡ alone (λ _. true) (worker_done own ops m cpu)

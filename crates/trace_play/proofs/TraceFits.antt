@@ -35,7 +35,7 @@ use Rattle.trace_play.proofs.RoundFits.{round_fits}
 
 -- ---- how many CPUs there are
 
-module_seats : (m : Machine) (what : TraceOp) → (module_done m what).seats ≡ m.seats
+pub module_seats : (m : Machine) (what : TraceOp) → (module_done m what).seats ≡ m.seats
 module_seats m (op.Page key order) = refl
 module_seats m (op.Kmalloc key size) = refl
 module_seats m (op.Free key) = refl
@@ -93,7 +93,7 @@ fits_of_round trace ops walk after m are formed b e =
     (subst (λ n. All (λ (on : OnOp). on.cpu < n) ops) (sym b.count) (All-weaker (IsFormedOn trace.cpus trace.sections) (λ (on : OnOp). on.cpu < trace.cpus) (λ on is. is.0) ops formed))
     (record { keys = b.fits.keys; modules = b.fits.modules }) e b.rise b.agree
 
-item_between : (trace : Trace) (top : Option ℕ) (what : Item) (walk next : Walk) (p : Played) → FitsItem what → IsFormedItem trace.cpus trace.sections what → walk_item what walk ≡ Ok next → Between trace walk p.machine
+pub item_between : (trace : Trace) (top : Option ℕ) (what : Item) (walk next : Walk) (p : Played) → FitsItem what → IsFormedItem trace.cpus trace.sections what → walk_item what walk ≡ Ok next → Between trace walk p.machine
     → Between trace next (item_played trace top what p).machine
 unfolding walk_item
 item_between trace top (item.Round ops) walk next p are formed e b =

@@ -9,4 +9,6 @@ pub mod Left
 pub mod Alone
 pub mod Fits
 pub mod Fitting
+pub mod Owned
+pub mod Sound
 pub mod Rows

@@ -1,9 +1,10 @@
 //! Laws of what a trace leaves. The functions do nothing: what they promise are laws of the definitions.
 
-ghost use Rattle.std.specs.Prelude.{ℕ, List, None, Ok, Option, true, ◌≡◌};
+ghost use Rattle.std.specs.Prelude.{ℕ, List, None, Ok, Option, true, ◌++◌, ◌≡◌, ◌≤◌};
 ghost use Rattle.round_check.specs.Rounds.{IsRound};
 ghost use Rattle.round_check.specs.Walk.{rounds_of};
 ghost use Rattle.round_check.specs.declared.walk.Walk.{Walk};
+ghost use Rattle.tag_model.specs.Index.{Slot};
 ghost use Rattle.trace.specs.Formed.{IsFormedTrace};
 ghost use Rattle.trace.specs.declared.traces.Item.{Item};
 ghost use Rattle.trace.specs.declared.traces.OnOp.{OnOp};
@@ -11,6 +12,7 @@ ghost use Rattle.trace.specs.declared.traces.Trace.{Trace};
 ghost use Rattle.trace_play.specs.Alone.{rises};
 ghost use Rattle.trace_play.specs.Fits.{RoundFits};
 ghost use Rattle.trace_play.specs.Play.{played_so_far};
+ghost use Rattle.trace_play.specs.Sound.{references_in, IsSound};
 
 /// After any items of any trace no key stands twice in the live list.
 pub fn no_key_stands_twice()
@@ -22,4 +24,17 @@ pub fn no_key_stands_twice()
 pub fn checked_rounds_fit()
     ensures { (trace : Trace) (top : Option ℕ) (ops : List OnOp) (before : Walk) → IsFormedTrace trace → rounds_of trace ≡ Ok tt → (round : IsRound trace ops before)
         → (played_so_far trace top round.front).refused ≡ None → RoundFits ops before (played_so_far trace top round.front).played.machine }
+{}
+
+/// After any items of a checked trace everything that is given is somebody's, once: each taken frame is one block's or
+/// one slab's, each taken place of a slab has one object, and each vector that is out is one slab's.
+pub fn checked_machines_are_sound()
+    ensures { (trace : Trace) (top : Option ℕ) → IsFormedTrace trace → rounds_of trace ≡ Ok tt → (front back : List Item) → trace.body ≡ front ++ back
+        → IsSound (played_so_far trace top front).played.machine }
+{}
+
+/// So no cell of the table holds two references.
+pub fn no_cell_holds_two()
+    ensures { (trace : Trace) (top : Option ℕ) → IsFormedTrace trace → rounds_of trace ≡ Ok tt → (front back : List Item) → trace.body ≡ front ++ back
+        → (slot : Slot) → references_in slot (played_so_far trace top front).played.machine ≤ 1 }
 {}
