@@ -51,7 +51,7 @@ in_parts whole order below = ap (λ n. 2 ^ n) (let e : whole ≡ (whole - order)
 parts_are : (whole order : ℕ) → order < whole → 2 ^ whole / 2 ^ order ≡ 2 ^ (whole - order)
 parts_are whole order below = div-eq_of_eq-mul_left (pow_pos order) (in_parts whole order below)
 
-bytes_of_part : (whole order : ℕ) → order < whole → 4096 * 2 ^ whole / 2 ^ (whole - order) ≡ 4096 * 2 ^ order
+pub bytes_of_part : (whole order : ℕ) → order < whole → 4096 * 2 ^ whole / 2 ^ (whole - order) ≡ 4096 * 2 ^ order
 bytes_of_part whole order below =
     div-eq_of_eq-mul_left (pow_pos (whole - order))
     (ap (λ n. 4096 * n) (in_parts whole order below) ∙ shuffle 4096 (2 ^ (whole - order)) (2 ^ order))

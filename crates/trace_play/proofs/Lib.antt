@@ -8,6 +8,7 @@ pub mod KeysFit
 pub mod RoundFits
 pub mod TraceFits
 pub mod LiveSums
+pub mod LiveChanges
 pub mod NodeLemmas
 pub mod WorkerSound
 pub mod MachineSound

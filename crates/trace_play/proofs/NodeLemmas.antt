@@ -90,12 +90,12 @@ sum_set weight from (y ∷ ys) (suc i) x below =
     omega arith
 
 -- where the new slab weighs as the old one the sum stays
-sum_stays : (weight : ℕ → Option Slab → ℕ) (slabs : List (Option Slab)) (i : ℕ) (x : Option Slab) → i < length slabs → weight i x ≡ weight i (get_or slabs i None) → slabs_sum weight 0 (set slabs i x) ≡ slabs_sum weight 0 slabs
+pub sum_stays : (weight : ℕ → Option Slab → ℕ) (slabs : List (Option Slab)) (i : ℕ) (x : Option Slab) → i < length slabs → weight i x ≡ weight i (get_or slabs i None) → slabs_sum weight 0 (set slabs i x) ≡ slabs_sum weight 0 slabs
 sum_stays weight slabs i x below e = let s = sum_set weight 0 slabs i x below in let z : 0 + i ≡ i = omega arith in
     let t : slabs_sum weight 0 (set slabs i x) + weight i (get_or slabs i None) ≡ slabs_sum weight 0 slabs + weight i x = subst (λ n. slabs_sum weight 0 (set slabs i x) + weight n (get_or slabs i None) ≡ slabs_sum weight 0 slabs + weight n x) z s in
     omega (arith, e)
 
-sum_at : (weight : ℕ → Option Slab → ℕ) (slabs : List (Option Slab)) (i : ℕ) (x : Option Slab) → i < length slabs → slabs_sum weight 0 (set slabs i x) + weight i (get_or slabs i None) ≡ slabs_sum weight 0 slabs + weight i x
+pub sum_at : (weight : ℕ → Option Slab → ℕ) (slabs : List (Option Slab)) (i : ℕ) (x : Option Slab) → i < length slabs → slabs_sum weight 0 (set slabs i x) + weight i (get_or slabs i None) ≡ slabs_sum weight 0 slabs + weight i x
 sum_at weight slabs i x below = let s = sum_set weight 0 slabs i x below in let z : 0 + i ≡ i = omega arith in
     subst (λ n. slabs_sum weight 0 (set slabs i x) + weight n (get_or slabs i None) ≡ slabs_sum weight 0 slabs + weight n x) z s
 
@@ -104,7 +104,7 @@ sum_has : (weight : ℕ → Option Slab → ℕ) (slabs : List (Option Slab)) (i
 sum_has weight slabs i below none = let s = sum_at weight slabs i None below in omega (arith, none)
 
 -- who has a slab is in the list
-has_slab_within : (slabs : List (Option Slab)) (i : ℕ) (slab : Slab) → get_or slabs i None ≡ Some slab → i < length slabs
+pub has_slab_within : (slabs : List (Option Slab)) (i : ℕ) (slab : Slab) → get_or slabs i None ≡ Some slab → i < length slabs
 has_slab_within [] i slab e = let no : ⊥ = cc in absurd no
 has_slab_within (x ∷ xs) zero slab e = omega arith
 has_slab_within (x ∷ xs) (suc i) slab e = let below = has_slab_within xs i slab e in omega arith
@@ -355,7 +355,7 @@ must_be n false e h = absurd (omega arith)
 
 module _ (node : NodeState) (all : (Storage → ℕ) → ℕ) (sound : NodeSound node all) where
   -- no slab begins at a free frame
-  no_slab_at : (start : ℕ) → start < length node.slabs → get_or node.node.frames start false ≡ false → get_or node.slabs start None ≡ None
+  pub no_slab_at : (start : ℕ) → start < length node.slabs → get_or node.node.frames start false ≡ false → get_or node.slabs start None ≡ None
   no_slab_at start below free =
       let has = sum_has (slab_has_frame start) node.slabs start below refl in
       let sum = sound.frames start ∙ ap one_if free in
@@ -500,7 +500,7 @@ cpu_of_vector : (out : Bool) (vector : Option ℕ) (node : NodeState) → (with_
 cpu_of_vector out None node = refl
 cpu_of_vector out (Some v) node = refl
 
-slabs_of_vector : (out : Bool) (vector : Option ℕ) (node : NodeState) → (with_vector out vector node).slabs ≡ node.slabs
+pub slabs_of_vector : (out : Bool) (vector : Option ℕ) (node : NodeState) → (with_vector out vector node).slabs ≡ node.slabs
 slabs_of_vector out None node = refl
 slabs_of_vector out (Some v) node = refl
 

@@ -28,7 +28,8 @@ use Rattle.trace_play.specs.Sound.{content_weight, live_sum, is_away}
 use Rattle.trace_play.proofs.Entries.{find_put, sorted_put}
 use Rattle.trace_play.proofs.KeysFit.{in_parts, content_is, order_is}
 use Rattle.trace_play.proofs.Rising.{worker_rises}
-use Rattle.trace_play.proofs.LiveSums.{found_weight, sum_put, sum_without, sum_found}
+use Rattle.trace_play.proofs.LiveSums.{found_weight, sum_without, sum_found}
+use Rattle.trace_play.proofs.LiveChanges.{parts_sum, put_unbound, put_alike, split_sum}
 use Rattle.trace_play.proofs.NodeLemmas.{gives, gives_block, homes, IsGiven, MaybeGiven, IsHome}
 
 -- ---- weights that a node reads
@@ -80,10 +81,6 @@ module _ (home : ℕ) where
   }
 
 -- ---- weights of blocks and of their parts
-
-abbrev pub parts_sum : (ℕ → ℕ) → ℕ → ℕ → ℕ
-parts_sum part from zero = 0
-parts_sum part from (suc count) = part from + parts_sum part (from + 1) count
 
 -- a block weighs the same whatever its cell holds, and as much as its parts
 pub record Plain (weight : Storage → ℕ) : Type 0 where
@@ -243,20 +240,14 @@ module _ (cpu count : ℕ) (nodes : ℕ → NodeState) (elsewhere : (Storage →
     one_given_sound (storage.Object home frame place vector holds) w s = s
     one_given_sound (storage.Uncounted home frame place) w s = s
 
-    put_unbound : (weight : Storage → ℕ) (key : ℕ) (content : Content) (live : Live) → T (rises live) → IsUnbound key live → live_sum weight (put key content live) ≡ live_sum weight live + content_weight weight content
-    put_unbound weight key content live r none =
-        let s = sum_put (content_weight weight) key content live r in
-        let z = ap (found_weight (content_weight weight)) none in
-        omega arith
-
     allocated_sound : (key order : ℕ) (given : Option Given) (w : WorkerState) → T (rises w.live) → IsUnbound key w.live → SoundWorker w → MaybeGiven w.seat.node (worker_sum elsewhere w) given → SoundWorker (allocated key order given w)
     allocated_sound key order None w r none s is =
-        same_sums w.seat.node (worker_sum elsewhere w) (worker_sum elsewhere (allocated key order None w)) (λ weight. ap (λ n. n + (sum_by weight w.seat.returning + elsewhere weight)) (put_unbound weight key (Nothing order) w.live r none ∙ add-zero _)) s
+        same_sums w.seat.node (worker_sum elsewhere w) (worker_sum elsewhere (allocated key order None w)) (λ weight. ap (λ n. n + (sum_by weight w.seat.returning + elsewhere weight)) (put_unbound (content_weight weight) key (Nothing order) w.live r none ∙ add-zero _)) s
     allocated_sound key order (Some given) w r none s is =
         let now = with_moves given.moves (with_node given.node (with_live (put key (Stored given.storage) w.live) w)) in
         one_given_sound given.storage now
         (was_given w.seat.node (worker_sum elsewhere w) (worker_sum elsewhere now) given s is
-        (λ weight. let p = put_unbound weight key (Stored given.storage) w.live r none in omega arith))
+        (λ weight. let p = put_unbound (content_weight weight) key (Stored given.storage) w.live r none in omega arith))
 
     back_sound : (content : Content) (w : WorkerState) (live : Live) (moves : List Move) → SoundWorker w → ((weight : Storage → ℕ) → live_sum weight live + content_weight weight content ≡ live_sum weight w.live) → SoundWorker (given_back content (with_moves moves (with_live live w)))
     back_sound (Nothing order) w live moves s less =
@@ -285,13 +276,6 @@ module _ (cpu count : ℕ) (nodes : ℕ → NodeState) (elsewhere : (Storage →
             (back_sound content w (without key w.live) (close_moves (cpu_of w) (held_of content)) s
             (λ weight. let l = sum_without (content_weight weight) key w.live r in let f = ap (found_weight (content_weight weight)) e in omega arith))
 
-    -- a content that weighs as much takes the place of one
-    put_alike : (weight : Storage → ℕ) (key : ℕ) (old new : Content) (live : Live) → T (rises live) → entry_at key live ≡ Some old → content_weight weight new ≡ content_weight weight old → live_sum weight (put key new live) ≡ live_sum weight live
-    put_alike weight key old new live r found alike =
-        let s = sum_put (content_weight weight) key new live r in
-        let f = ap (found_weight (content_weight weight)) found in
-        omega arith
-
     held_alike : (weight : Storage → ℕ) → Plain weight → (change : Held → Held) (content : Content) → content_weight weight (with_held change content) ≡ content_weight weight content
     held_alike weight plain change (Nothing order) = refl
     held_alike weight plain change (Stored (Pages block)) = plain.held block.home block.frame block.order (change block.holds) block.holds
@@ -313,43 +297,6 @@ module _ (cpu count : ℕ) (nodes : ℕ → NodeState) (elsewhere : (Storage →
 
     -- ---- a split
 
-    later_parts : (weight : Storage → ℕ) (key first : ℕ) (part : ℕ → Content) (many from new : ℕ) (live : Live) → 0 < from → new ≡ first + from - 1 → T (rises live) → ((q : ℕ) → new ≤ q → q < new + many → IsUnbound q live)
-        → live_sum weight (fold (λ parts place. put (part_key key first place) (part place) parts) live (range_with_len from many)) ≡ live_sum weight live + parts_sum (λ place. content_weight weight (part place)) from many
-    later_parts weight key first part zero from new live above is r none = sym (add-zero _)
-    later_parts weight key first part (suc many) from new live above is r none =
-        let here : part_key key first from ≡ new = cond-false (eqb from 0) key (first + from - 1) (ne_eqb from 0 (λ e. omega arith)) ∙ sym is in
-        let now = put (part_key key first from) (part from) live in
-        let one = put_unbound weight (part_key key first from) (part from) live r (subst (λ k. IsUnbound k live) (sym here) (none new (omega arith) (omega arith))) in
-        let rest = later_parts weight key first part many (from + 1) (new + 1) now (omega arith) (omega arith) (sorted_put (part_key key first from) (part from) live r)
-        (λ q low high. find_put q (part_key key first from) (part from) live ∙ cond-false (eqb q (part_key key first from)) (Some (part from)) (entry_at q live) (ne_eqb q (part_key key first from) (λ e. omega (arith, here))) ∙ none q (omega arith) (omega arith)) in
-        omega arith
-
-    split_sum : (weight : Storage → ℕ) (key order first : ℕ) (w : WorkerState) → T (rises w.live) → (f : SplitFits key order first w.live)
-        → live_sum weight (split_live key order first w.live) + content_weight weight f.block.content ≡ live_sum weight w.live + parts_sum (λ place. content_weight weight (part_in order place f.block.content)) 0 (parts_in order f.whole)
-    split_sum weight key order first w r f =
-        let content = f.block.content in
-        let there : content_at key w.live ≡ content = content_is key w.live content f.block.found in
-        let some = pow_pos (f.whole - order) in
-        let many = parts_in order f.whole - 1 in
-        let parts : parts_in order f.whole ≡ suc many = omega arith in
-        let order_there : order_of content ≡ f.whole = order_is f.whole _ content f.block.is in
-        let part = λ (place : ℕ). part_in order place content in
-        let now = put key (part 0) w.live in
-        let first_one = sum_put (content_weight weight) key (part 0) w.live r in
-        let was = ap (found_weight (content_weight weight)) f.block.found in
-        let rest : live_sum weight (fold (λ parts place. put (part_key key first place) (part place) parts) now (range_with_len 1 many)) ≡ live_sum weight now + parts_sum (λ place. content_weight weight (part place)) 1 many =
-        later_parts weight key first part many 1 first now (omega arith) (omega arith) (sorted_put key (part 0) w.live r)
-        (λ q low high.
-        let unbound = f.unbound q low high in
-        find_put q key (part 0) w.live ∙ cond-false (eqb q key) (Some (part 0)) (entry_at q w.live) (ne_eqb q key (λ e. some_none content (sym f.block.found ∙ ap (λ k. entry_at k w.live) (sym e) ∙ unbound))) ∙ unbound) in
-        let whole_sum : live_sum weight (fold (λ parts place. put (part_key key first place) (part place) parts) w.live (range_with_len 0 (suc many))) + content_weight weight content ≡ live_sum weight w.live + parts_sum (λ place. content_weight weight (part place)) 0 (suc many) = omega arith in
-        subst₂ (λ (c : Content) n. live_sum weight (fold (λ parts place. put (part_key key first place) (part_in order place c) parts) w.live (range_with_len 0 n)) + content_weight weight content ≡ live_sum weight w.live + parts_sum (λ place. content_weight weight (part place)) 0 (parts_in order f.whole))
-        (sym there) (sym (ap (λ c. parts_in order (order_of c)) there ∙ ap (parts_in order) order_there ∙ parts))
-        (subst (λ n. live_sum weight (fold (λ parts place. put (part_key key first place) (part place) parts) w.live (range_with_len 0 (suc many))) + content_weight weight content ≡ live_sum weight w.live + parts_sum (λ place. content_weight weight (part place)) 0 n) (sym parts) whole_sum)
-      where
-        some_none : (c : Content) → Some c ≡ None → ⊥
-        some_none c e = let no : ⊥ = cc in no
-
     parts_weigh : (weight : Storage → ℕ) → Plain weight → (order whole bytes : ℕ) (content : Content) → order < whole → IsBlockOf whole bytes content → parts_sum (λ place. content_weight weight (part_in order place content)) 0 (parts_in order whole) ≡ content_weight weight content
     parts_weigh weight plain order whole bytes (Nothing of) below is = no_parts (λ place. 0) (λ place. refl) (parts_in order whole) 0
     parts_weigh weight plain order whole bytes (Stored (Pages block)) below is =
@@ -367,11 +314,11 @@ module _ (cpu count : ℕ) (nodes : ℕ → NodeState) (elsewhere : (Storage →
     split_sound key order first w r f s =
         relived w (split_live key order first w.live)
         (λ weight plain.
-        let t = split_sum weight key order first w r f in
+        let t = split_sum (content_weight weight) key order first w r f in
         let p = parts_weigh weight plain order f.whole _ f.block.content f.above f.block.is in
         omega arith)
         (λ none.
-        let t = split_sum (is_away count) key order first w r f in
+        let t = split_sum (content_weight (is_away count)) key order first w r f in
         let found = sum_found (content_weight (is_away count)) key w.live r in
         let is = ap (found_weight (content_weight (is_away count))) f.block.found in
         let z : content_weight (is_away count) f.block.content ≡ 0 = omega arith in
@@ -387,7 +334,7 @@ module _ (cpu count : ℕ) (nodes : ℕ → NodeState) (elsewhere : (Storage →
     swap_sum weight alike one two x y live r found also =
         let s = with_held (λ _. held_of y) x in
         let t = with_held (λ _. held_of x) y in
-        let first = put_alike weight two y t live r also (alike (λ _. held_of x) y) in
+        let first = put_alike (content_weight weight) two y t live r also (alike (λ _. held_of x) y) in
         let there = find_put one two t live in
         let up = sorted_put two t live r in
         by (eqb one two) refl there first up
@@ -397,11 +344,11 @@ module _ (cpu count : ℕ) (nodes : ℕ → NodeState) (elsewhere : (Storage →
         by true e there first up =
             let same : Some x ≡ Some y = sym found ∙ ap (λ k. entry_at k live) (eqb-true one two e) ∙ also in
             let both : x ≡ y = cc in
-            put_alike weight one (with_held (λ _. held_of x) y) (with_held (λ _. held_of y) x) (put two (with_held (λ _. held_of x) y) live) up there
+            put_alike (content_weight weight) one (with_held (λ _. held_of x) y) (with_held (λ _. held_of y) x) (put two (with_held (λ _. held_of x) y) live) up there
             (alike (λ _. held_of y) x ∙ ap (content_weight weight) both ∙ sym (alike (λ _. held_of x) y))
             ∙ first
         by false e there first up =
-            put_alike weight one x (with_held (λ _. held_of y) x) (put two (with_held (λ _. held_of x) y) live) up (there ∙ found) (alike (λ _. held_of y) x) ∙ first
+            put_alike (content_weight weight) one x (with_held (λ _. held_of y) x) (put two (with_held (λ _. held_of x) y) live) up (there ∙ found) (alike (λ _. held_of y) x) ∙ first
 
     swap_sound : (one two : ℕ) (w : WorkerState) → T (rises w.live) → SwapFits one two w.live → SoundWorker w → SoundWorker (with_live (swap_live one two w.live) w)
     swap_sound one two w r f s =
@@ -426,8 +373,8 @@ module _ (cpu count : ℕ) (nodes : ℕ → NodeState) (elsewhere : (Storage →
         let content = f.block.content in
         subst (λ (c : Content). SoundWorker (with_live (put key (with_held (trimmed bytes) c) w.live) w)) (sym (content_is key w.live content f.block.found))
         (relived w (put key (with_held (trimmed bytes) content) w.live)
-        (λ weight plain. put_alike weight key content (with_held (trimmed bytes) content) w.live r f.block.found (held_alike weight plain (trimmed bytes) content))
-        (λ none. put_alike (is_away count) key content (with_held (trimmed bytes) content) w.live r f.block.found (away_held (trimmed bytes) content) ∙ none) s)
+        (λ weight plain. put_alike (content_weight weight) key content (with_held (trimmed bytes) content) w.live r f.block.found (held_alike weight plain (trimmed bytes) content))
+        (λ none. put_alike (content_weight (is_away count)) key content (with_held (trimmed bytes) content) w.live r f.block.found (away_held (trimmed bytes) content) ∙ none) s)
 
     -- ---- all
 
