@@ -13,3 +13,5 @@ pub mod NodeLemmas
 pub mod WorkerSound
 pub mod MachineSound
 pub mod CellsApart
+pub mod Accounted
+pub mod TotalsHold

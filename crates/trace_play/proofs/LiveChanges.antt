@@ -1,5 +1,5 @@
 -- What an allocation, a change and a split do to a sum over the live list.
-use Rattle.std.proofs.Common.{◌≡◌, ◌≢◌, ℕ, zero, suc, ◌+◌, ◌-◌, ◌<◌, ◌≤◌, Bool, true, false, cond, T, eqb, List, Option, Some, None, nat_cmp, refl, sym, ap, ◌∙◌, subst, subst₂, arith, ne_eqb, add-zero}
+use Rattle.std.proofs.Common.{◌≡◌, ℕ, zero, suc, ◌+◌, ◌-◌, ◌<◌, ◌≤◌, T, eqb, Some, None, sym, ap, ◌∙◌, subst, subst₂, arith, ne_eqb, add-zero}
 use Rattle.std.specs.Prelude.{fold}
 use Rattle.std.specs.List.{range_with_len}
 use Rattle.std.proofs.lemmas.Bool.{cond-false}
@@ -67,4 +67,3 @@ split_sum weight key order first w r f =
   where
     some_none : (c : Content) → Some c ≡ None → ⊥
     some_none c e = let no : ⊥ = cc in no
-

@@ -1,7 +1,8 @@
 -- The machine of a checked trace is sound.
-use Rattle.std.proofs.Common.{◌≡◌, ◌≢◌, ℕ, zero, suc, ◌+◌, ◌<◌, ◌≤◌, Bool, true, false, not, eqb, ltb, List, [], ◌∷◌, ◌++◌, length, map, set, get_or, replicate, Option, Some, None, Ok, All, refl, sym, ap, ◌∙◌, subst, arith, eqb-true, ltb-true, set-set}
+use Rattle.std.proofs.Common.{T, ◌≡◌, ◌≢◌, ℕ, zero, suc, ◌+◌, ◌<◌, ◌≤◌, Bool, true, false, not, eqb, ltb, List, [], ◌∷◌, ◌++◌, length, map, set, get_or, replicate, Option, Some, None, Ok, All, refl, sym, ap, ◌∙◌, subst, arith, eqb-true, ltb-true, set-set}
 use Rattle.std.proofs.lemmas.List.{set-get_or}
 use Rattle.std.specs.Prelude.{fold, sum_by}
+use Rattle.std.specs.Bool.{⊤}
 use Rattle.std.specs.List.{flat_map, range_with_len}
 use Rattle.std.proofs.lemmas.Bool.{eqb-false}
 use Rattle.std.proofs.lemmas.Grind.{get_or-set_at}
@@ -27,10 +28,10 @@ use Rattle.round_check.specs.Walk.{start, begun, walk_ops, walk_item, walk_items
 use Rattle.round_check.proofs.Passed.{Fits}
 use Rattle.trace_play.specs.Worker.{Seat, WorkerState, all_done}
 use Rattle.trace_play.specs.Machine.{Machine, machine_of, fresh_node, fresh_seat, seat_at, worker_at, with_worker}
-use Rattle.trace_play.specs.Barrier.{ops_of, cpus_done, modules_done, on_its_way, none_returning, none_on_its_way, storage_home, all_home, cleaned, round_done}
+use Rattle.trace_play.specs.Barrier.{ops_of, cpu_done, cpus_done, modules_done, on_its_way, none_returning, none_on_its_way, storage_home, all_home, cleaned, round_done}
 use Rattle.trace_play.specs.Play.{Played, Outcome, refusal_of, item_played, play, played_so_far, nothing_played}
 use Rattle.trace_play.specs.Alone.{rises, kept, NamesItsOwn}
-use Rattle.trace_play.specs.Fits.{Agree, AgreeAt, IsBoundAs, is_owner, RoundFits}
+use Rattle.trace_play.specs.Fits.{Agree, AgreeAt, AllFit, IsBoundAs, is_owner, RoundFits}
 use Rattle.trace_play.specs.Owned.{has_frame, is_object_at, has_cell_of, one_if, slab_has_frame, slabs_sum, slab_has_vector, slab_has_cell, is_taken_at, places_of, NodeSound}
 use Rattle.trace_play.specs.Sound.{live_sum, returning_sum, storage_sum, is_away, IsSound}
 use Rattle.trace_play.proofs.AloneLemmas.{holds}
@@ -74,7 +75,7 @@ at_seat seats cpu seat h below P here there = by (eqb h cpu) refl
 
 -- ---- a CPU's turn
 
-to_worker : (m : Machine) (cpu : ℕ) → cpu < length m.seats → IsSound m → AllSound cpu (length m.seats) (λ h. (seat_at h m).node) (elsewhere m cpu) (seat_at cpu m).node (worker_sum (elsewhere m cpu) (worker_at cpu m))
+pub to_worker : (m : Machine) (cpu : ℕ) → cpu < length m.seats → IsSound m → AllSound cpu (length m.seats) (λ h. (seat_at h m).node) (elsewhere m cpu) (seat_at cpu m).node (worker_sum (elsewhere m cpu) (worker_at cpu m))
 to_worker m cpu below s =
     let same : (weight : Storage → ℕ) → worker_sum (elsewhere m cpu) (worker_at cpu m) weight ≡ storage_sum m weight = λ weight. let t = seat_there m cpu weight below in omega arith in
     record {
@@ -98,31 +99,39 @@ from_worker m cpu w below s a =
       homes = ap (λ n. storage_sum now (is_away n)) long ∙ same (is_away (length m.seats)) ∙ a.homes;
     }
 
-record SoundSeats (count : ℕ) (m : Machine) : Type 0 where
-  long : length m.seats ≡ count
-  sound : IsSound m
+pub record SoundSeats (P : Machine → Type 0) (count : ℕ) (m : Machine) : Type 0 where
+  pub long : length m.seats ≡ count
+  pub sound : IsSound m
+  pub also : P m
 
 -- ---- the ops of a round
 
-pub ops_sound : (ops : List OnOp) (before after : Walk) (m : Machine) → All FitsOn ops → Fits before → walk_ops ops before ≡ Ok after → rises m.live ≡ true → Agree before.keys m.live → (f : RoundFits ops before m) → f.after ≡ after → IsSound m → IsSound (cpus_done ops m)
-ops_sound ops before after m are fits e r agree f same s =
+-- what each CPU's turn keeps, where its ops fit and the machine is sound
+pub turns : (ops : List OnOp) (before after : Walk) (m : Machine) → All FitsOn ops → Fits before → walk_ops ops before ≡ Ok after → rises m.live ≡ true → Agree before.keys m.live → (f : RoundFits ops before m) → f.after ≡ after
+    → (P : Machine → Type 0) → ((cpu : ℕ) (now : Machine) → cpu < length now.seats → T (rises now.live) → AllFit now.area.entries (ops_of cpu ops) (worker_at cpu now) → IsSound now → P now → P (cpu_done ops now cpu))
+    → IsSound m → P m → SoundSeats P (length m.seats) (cpus_done ops m)
+turns ops before after m are fits e r agree f same P step s p =
     let own = is_owner after in
     let names : (cpu : ℕ) → NamesItsOwn (own cpu) ops m cpu = λ cpu. subst (λ (x : Walk). NamesItsOwn (is_owner x cpu) ops m cpu) same (f.names cpu) in
-    (along own ops m r (none_shared after) (λ cpu _. names cpu) (SoundSeats (length m.seats))
+    along own ops m r (none_shared after) (λ cpu _. names cpu) (SoundSeats P (length m.seats))
     (λ cpu now below up area begins here h.
     let low : cpu < length now.seats = omega (arith, h.long) in
     let there : AgreeAt (own cpu) before.keys now.live =
     λ key is. subst (IsBoundAs (key_at before.keys key).bound)
     (sym (find_of_kept (own cpu) key now.live (kept (own cpu) m.live) (ap (λ (w : WorkerState). w.live) begins) is ∙ sym (find_of_kept (own cpu) key m.live (kept (own cpu) m.live) refl is)))
     (agree key) in
-    let p = pass after now.area.entries cpu ops before are fits e (worker_at cpu now) there in
     let entries = now.area.entries in
+    let fit = (pass after entries cpu ops before are fits e (worker_at cpu now) there).fits in
     record {
       long = length-set now.seats cpu _ ∙ h.long;
       sound = from_worker now cpu (all_done entries (ops_of cpu ops) (worker_at cpu now)) low h.sound
-          (all_sound cpu (length now.seats) (λ k. (seat_at k now).node) (elsewhere now cpu) low (λ k small differ. h.sound.cpus k small) entries (ops_of cpu ops) (worker_at cpu now) (holds up) p.fits (to_worker now cpu low h.sound));
+          (all_sound cpu (length now.seats) (λ k. (seat_at k now).node) (elsewhere now cpu) low (λ k small differ. h.sound.cpus k small) entries (ops_of cpu ops) (worker_at cpu now) (holds up) fit (to_worker now cpu low h.sound));
+      also = step cpu now low (holds up) fit h.sound h.also;
     })
-    (record { long = refl; sound = s })).sound
+    (record { long = refl; sound = s; also = p })
+
+pub ops_sound : (ops : List OnOp) (before after : Walk) (m : Machine) → All FitsOn ops → Fits before → walk_ops ops before ≡ Ok after → rises m.live ≡ true → Agree before.keys m.live → (f : RoundFits ops before m) → f.after ≡ after → IsSound m → IsSound (cpus_done ops m)
+ops_sound ops before after m are fits e r agree f same s = (turns ops before after m are fits e r agree f same (λ _. ⊤) (λ cpu now low up fit sound p. tt) s tt).sound
 
 -- ---- the barrier
 
@@ -132,7 +141,7 @@ same_parts m now seats live s =
     subst IsSound (λ i. record now { seats = sym seats i; live = sym live i }) at_first
 
 -- with what is still on its way
-record OnTheWay (count : ℕ) (m : Machine) (rest : List Storage) : Type 0 where
+pub record OnTheWay (count : ℕ) (m : Machine) (rest : List Storage) : Type 0 where
   long : length m.seats ≡ count
   none : (weight : Storage → ℕ) → returning_sum weight m.seats ≡ 0
   cpus : (cpu : ℕ) → cpu < count → (seat_at cpu m).node.node.cpu ≡ cpu
@@ -157,7 +166,7 @@ same_nodes (seat ∷ seats) (suc h) = shifted seats h (fresh_seat 0 0 (suc h)) r
     shifted (seat ∷ seats) zero d e = refl
     shifted (seat ∷ seats) (suc h) d e = shifted seats h d e
 
-sets_out : (m : Machine) → IsSound m → OnTheWay (length m.seats) (none_on_its_way m) (on_its_way m)
+pub sets_out : (m : Machine) → IsSound m → OnTheWay (length m.seats) (none_on_its_way m) (on_its_way m)
 sets_out m s =
     let same : (weight : Storage → ℕ) → live_sum weight m.live + sum_by weight (on_its_way m) ≡ storage_sum m weight = λ weight. ap (λ n. live_sum weight m.live + n) (way_sum weight m.seats) in
     record {
@@ -176,7 +185,15 @@ has_home count given e = by (ltb (home_of given) count) refl e
     by true t e = ltb-true (home_of given) count t
     by false t e = absurd (omega arith)
 
-one_home : (count : ℕ) (m : Machine) (given : Storage) (rest : List Storage) → OnTheWay count m (given ∷ rest) → OnTheWay count (storage_home m given) rest
+pub home_low : (count : ℕ) (m : Machine) (given : Storage) (rest : List Storage) → OnTheWay count m (given ∷ rest) → home_of given < length m.seats
+home_low count m given rest o =
+    let away = o.homes_are in
+    let c = sum_by-cons (is_away count) given rest in
+    let z : is_away count given ≡ 0 = omega arith in
+    let low = has_home count given z in
+    omega (arith, o.long)
+
+pub one_home : (count : ℕ) (m : Machine) (given : Storage) (rest : List Storage) → OnTheWay count m (given ∷ rest) → OnTheWay count (storage_home m given) rest
 unfolding IsHome
 one_home count m given rest o =
     let home = home_of given in
@@ -283,7 +300,7 @@ items_keep Q trace top step (what ∷ items) back walk end p are formed e b q =
       | Some w ↦ (walk, q)
     ]
 
-item_sound : (trace : Trace) (top : Option ℕ) (what : Item) (walk next : Walk) (p : Played) → FitsItem what → IsFormedItem trace.cpus trace.sections what → walk_item what walk ≡ Ok next → Between trace walk p.machine → IsSound p.machine → IsSound (item_played trace top what p).machine
+pub item_sound : (trace : Trace) (top : Option ℕ) (what : Item) (walk next : Walk) (p : Played) → FitsItem what → IsFormedItem trace.cpus trace.sections what → walk_item what walk ≡ Ok next → Between trace walk p.machine → IsSound p.machine → IsSound (item_played trace top what p).machine
 unfolding walk_item
 item_sound trace top (item.Round ops) walk next p are formed e b s =
     let f = fits_of_round trace ops walk next p.machine are formed b e in

@@ -1,10 +1,7 @@
 -- A worker's machine stays sound, op by op.
-use Rattle.std.proofs.Common.{◌≡◌, ◌≢◌, ℕ, zero, suc, ◌+◌, ◌-◌, ◌*◌, ◌^◌, ◌<◌, ◌≤◌, Bool, true, false, cond, not, T, eqb, leb, ltb, List, [], ◌∷◌, Option, Some, None, IsSome, refl, sym, ap, ◌∙◌, subst, subst₂, arith, eqb-true, ne_eqb, add-zero, lt-ltb, ltb-true, ltb-false, leb-true, leb-false}
-use Rattle.std.specs.Prelude.{fold, ◌&&◌, sum_by, if◌then◌else◌}
-use Rattle.std.specs.List.{range_with_len}
-use Rattle.std.proofs.lemmas.Bool.{cond-false}
+use Rattle.std.proofs.Common.{◌≡◌, ◌≢◌, ℕ, zero, suc, ◌+◌, ◌*◌, ◌^◌, ◌<◌, ◌≤◌, Bool, true, false, cond, not, T, eqb, leb, ltb, List, [], ◌∷◌, Option, Some, None, IsSome, refl, sym, ap, ◌∙◌, subst, subst₂, arith, eqb-true, ne_eqb, add-zero, lt-ltb, ltb-true, ltb-false, leb-true, leb-false}
+use Rattle.std.specs.Prelude.{◌&&◌, sum_by, if◌then◌else◌}
 use Rattle.std.proofs.lemmas.List.Sums.{sum_by_push}
-use Rattle.std.proofs.lemmas.Nat.{pow_pos}
 use Rattle.std.proofs.Math.Nat.{add_assoc, add-mul, one-mul, zero-mul, mul-le-mul_right}
 use Rattle.tag_model.specs.declared.state.Held.{Held}
 use Rattle.tag_model.specs.Moves.{Move}
@@ -19,14 +16,14 @@ use Rattle.slab_cache.specs.Giving.{Given, given_block, given_object}
 use Rattle.slab_cache.specs.Homing.{come_home}
 use Rattle.trace.specs.declared.traces.TraceOp.{TraceOp}
 use Rattle.trace.specs.declared.traces.TraceOp.TheVariants as op
-use Rattle.trace_play.specs.Live.{Content, Nothing, Stored, Live, content_at, put, without, held_of, order_of, with_held, is_nothing, part_in, part_key, split_live, swap_live, trim_live}
+use Rattle.trace_play.specs.Live.{Content, Nothing, Stored, Live, put, without, held_of, with_held, is_nothing, part_in, split_live, swap_live, trim_live}
 use Rattle.trace_play.specs.Worker.{WorkerState, cpu_of, current_tag, with_moves, with_node, with_live, one_given, allocated, given_back, with_taken, closed, sent_home, freed, done, all_done}
 use Rattle.trace_play.specs.Alone.{rises}
 use Rattle.trace_play.specs.Fits.{entry_at, IsUnbound, IsBlockOf, SplitFits, SwapFits, TrimFits, OpFits, AllFit}
 use Rattle.trace_play.specs.Owned.{one_if, is_in, has_frame, same_vector, is_object_at, has_cell_of, slab_has_frame, slabs_sum, NodeSound}
 use Rattle.trace_play.specs.Sound.{content_weight, live_sum, is_away}
 use Rattle.trace_play.proofs.Entries.{find_put, sorted_put}
-use Rattle.trace_play.proofs.KeysFit.{in_parts, content_is, order_is}
+use Rattle.trace_play.proofs.KeysFit.{in_parts, content_is}
 use Rattle.trace_play.proofs.Rising.{worker_rises}
 use Rattle.trace_play.proofs.LiveSums.{found_weight, sum_without, sum_found}
 use Rattle.trace_play.proofs.LiveChanges.{parts_sum, put_unbound, put_alike, split_sum}
@@ -261,7 +258,7 @@ module _ (cpu count : ℕ) (nodes : ℕ → NodeState) (elsewhere : (Storage →
         by false e =
             let now = sent_home given (with_moves moves (with_live live w)) in
             let more : (weight : Storage → ℕ) → weight (closed given) ≡ weight given → worker_sum elsewhere now weight ≡ worker_sum elsewhere w weight =
-                λ weight same. let l = less weight in let p = sum_by_push weight w.seat.returning (closed given) in omega arith in
+            λ weight same. let l = less weight in let p = sum_by_push weight w.seat.returning (closed given) in omega arith in
             same_weights w.seat.node (worker_sum elsewhere w) (worker_sum elsewhere now)
             (plain_same (worker_sum elsewhere w) (worker_sum elsewhere now) (λ weight plain. more weight (plain.closed_one given)))
             (λ none. more (is_away count) (away_closed given) ∙ none) s
@@ -378,7 +375,7 @@ module _ (cpu count : ℕ) (nodes : ℕ → NodeState) (elsewhere : (Storage →
 
     -- ---- all
 
-    step_sound : (entries : List Entry) (what : TraceOp) (w : WorkerState) → T (rises w.live) → OpFits what w.live → SoundWorker w → SoundWorker (done entries what w)
+    pub step_sound : (entries : List Entry) (what : TraceOp) (w : WorkerState) → T (rises w.live) → OpFits what w.live → SoundWorker w → SoundWorker (done entries what w)
     step_sound entries (op.Page key order) w r f s = allocated_sound key order (given_block (current_tag w) order w.seat.node) w r f s (gives_block w.seat.node (worker_sum elsewhere w) s.own (current_tag w) order)
     step_sound entries (op.Kmalloc key size) w r f s = allocated_sound key 0 (given_object (current_tag w) size w.seat.node) w r f s (gives w.seat.node (worker_sum elsewhere w) s.own (current_tag w) size)
     step_sound entries (op.Free key) w r f s = freed_sound key w r f s

@@ -11,4 +11,5 @@ pub mod Fits
 pub mod Fitting
 pub mod Owned
 pub mod Sound
+pub mod Totals
 pub mod Rows

@@ -13,6 +13,7 @@ ghost use Rattle.trace_play.specs.Alone.{rises};
 ghost use Rattle.trace_play.specs.Fits.{RoundFits};
 ghost use Rattle.trace_play.specs.Play.{played_so_far};
 ghost use Rattle.trace_play.specs.Sound.{references_in, IsSound};
+ghost use Rattle.trace_play.specs.Totals.{IsAccounted};
 
 /// After any items of any trace no key stands twice in the live list.
 pub fn no_key_stands_twice()
@@ -37,4 +38,10 @@ pub fn checked_machines_are_sound()
 pub fn no_cell_holds_two()
     ensures { (trace : Trace) (top : Option ℕ) → IsFormedTrace trace → rounds_of trace ≡ Ok tt → (front back : List Item) → trace.body ≡ front ++ back
         → (slot : Slot) → references_in slot (played_so_far trace top front).played.machine ≤ 1 }
+{}
+
+/// After any items of a checked trace, what was added under a tag is what was taken away and what is live.
+pub fn totals_are_live()
+    ensures { (trace : Trace) (top : Option ℕ) → IsFormedTrace trace → rounds_of trace ≡ Ok tt → (front back : List Item) → trace.body ≡ front ++ back
+        → IsAccounted (played_so_far trace top front).played.machine }
 {}
