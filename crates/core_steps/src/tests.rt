@@ -228,14 +228,13 @@ fn start(rt: &impl Abort, alloc: Global, cpus: u32, area: u32) -> Result<Core, F
 fn play_all(
     rt: &impl Abort,
     alloc: Global,
-    row: &str,
     cpus: u32,
     area: u32,
     plays: &[Play],
 ) -> Result<(), Fail> {
     let mut core = start(rt, alloc, cpus, area)?;
     for (place, play) in plays.iter().enumerate() {
-        assert!(rt; act(&mut core, *play)?, "{row}: {place}");
+        assert!(rt; act(&mut core, *play)?, "{place}");
     }
     Ok(())
 }
@@ -299,240 +298,185 @@ const ONE: Actor = Actor::Cpu(1);
 const MANAGER: Actor = Actor::Manager;
 
 #[test]
-fn words_and_references(rt: HostRuntime) -> Result<(), Fail> {
-    let rows: [(&str, &[Play]); 5] = [
-        (
-            "remote-free-words",
-            &[
-                Play::Do(ZERO, open(1, 0, 0, 4096)),
-                Play::Go(ZERO, 3),
-                Play::Do(ONE, close(1)),
-                Play::Idle(ONE, false),
-                Play::Go(ONE, 3),
-                Play::Idle(ONE, true),
-                Play::Idle(Actor::Cpu(4), true),
-                Play::Total(0, 0, 0),
-                Play::Words(0, 0, 4096, 1),
-                Play::Words(1, 0, 18_446_744_073_709_547_520, 18_446_744_073_709_551_615),
-                Play::Words(2, 0, 0, 0),
-                Play::Refused(ONE, StepRefused::NoStep),
-                Play::Refused(Actor::Cpu(4), StepRefused::NoStep),
-            ],
-        ),
-        (
-            "split-counts",
-            &[
-                Play::Do(ZERO, open(1, 0, 0, 16_384)),
-                Play::Do(ZERO, split(1, 4, 2)),
-                Play::Go(ZERO, 11),
-                Play::Total(0, 16_384, 4),
-                Play::Do(ZERO, close(2)),
-                Play::Go(ZERO, 3),
-                Play::Total(0, 12_288, 3),
-                Play::Do(ONE, split(1, 2, 3)),
-                Play::Refused(ONE, StepRefused::KeyUsed(3)),
-            ],
-        ),
-        (
-            "split-uneven",
-            &[
-                Play::Do(ZERO, open(1, 0, 0, 10)),
-                Play::Do(ZERO, split(1, 3, 2)),
-                Play::Go(ZERO, 3),
-                Play::Refused(ZERO, StepRefused::Uneven),
-            ],
-        ),
-        (
-            "trim-and-too-small",
-            &[
-                Play::Do(ZERO, open(1, 0, 0, 12_288)),
-                Play::Do(ZERO, trim(1, 4096)),
-                Play::Go(ZERO, 6),
-                Play::Total(0, 8192, 1),
-                Play::Do(ZERO, trim(1, 8192)),
-                Play::Refused(ZERO, StepRefused::TooSmall),
-            ],
-        ),
-        (
-            "close-while-swapped",
-            &[
-                Play::Do(ZERO, open(1, 0, 0, 100)),
-                Play::Do(ZERO, open(2, 0, 1, 200)),
-                Play::Go(ZERO, 6),
-                Play::Do(ONE, Op::Swap { one: 1, two: 2 }),
-                Play::Go(ONE, 1),
-                Play::Total(0, 100, 1),
-                Play::Total(1, 200, 1),
-                Play::Do(ZERO, close(1)),
-                Play::Refused(ZERO, StepRefused::NotLive(1)),
-                Play::Go(ONE, 2),
-                Play::Go(ZERO, 3),
-                Play::Total(0, 100, 1),
-                Play::Total(1, 0, 0),
-            ],
-        ),
-    ];
-    for (row, plays) in rows {
-        play_all(&rt, rt.alloc(), row, 4, 896, plays)?;
-    }
-    Ok(())
+fn a_free_on_another_cpu_wraps_its_words(rt: HostRuntime) -> Result<(), Fail> {
+    play_all(
+        &rt,
+        rt.alloc(),
+        4,
+        896,
+        &[
+            Play::Do(ZERO, open(1, 0, 0, 4096)),
+            Play::Go(ZERO, 3),
+            Play::Do(ONE, close(1)),
+            Play::Idle(ONE, false),
+            Play::Go(ONE, 3),
+            Play::Idle(ONE, true),
+            Play::Idle(Actor::Cpu(4), true),
+            Play::Total(0, 0, 0),
+            Play::Words(0, 0, 4096, 1),
+            Play::Words(1, 0, 18_446_744_073_709_547_520, 18_446_744_073_709_551_615),
+            Play::Words(2, 0, 0, 0),
+            Play::Refused(ONE, StepRefused::NoStep),
+            Play::Refused(Actor::Cpu(4), StepRefused::NoStep),
+        ],
+    )
 }
 
 #[test]
-fn modules(rt: HostRuntime) -> Result<(), Fail> {
-    let rows: [(&str, u32, &[Play]); 8] = [
-        // A call is seen by the second pass alone.
-        (
-            "clean-after-kept",
-            896,
-            &[
-                Play::Do(MANAGER, load(EXT)),
-                Play::Go(MANAGER, 1),
-                Play::Do(ZERO, enter(EXT)),
-                Play::Do(ZERO, open(1, EXT, 0, 64)),
-                Play::Do(ZERO, leave(EXT)),
-                Play::Go(ZERO, 5),
-                Play::Do(ONE, close(1)),
-                Play::Go(ONE, 2),
-                Play::Do(MANAGER, unload(EXT)),
-                Play::Tells(4, kept(EXT, Kind::Calls, 1, Cause::Unload)),
-                Play::Idle(MANAGER, true),
-                Play::Go(ONE, 1),
-                Play::Do(MANAGER, Op::Clean),
-                Play::Tells(5, released(EXT, Cause::Clean)),
-                Play::Idle(MANAGER, true),
-            ],
-        ),
-        // A scan of calls alone would read 0 on both CPUs.
-        (
-            "split-race",
-            896,
-            &[
-                Play::Do(MANAGER, load(EXT)),
-                Play::Go(MANAGER, 1),
-                Play::Do(ONE, enter(EXT)),
-                Play::Do(ONE, open(1, EXT, 0, 8192)),
-                Play::Do(ONE, leave(EXT)),
-                Play::Go(ONE, 5),
-                Play::Do(MANAGER, unload(EXT)),
-                Play::Go(MANAGER, 2),
-                Play::Do(ZERO, split(1, 2, 2)),
-                Play::Go(ZERO, 4),
-                Play::Do(ONE, close(2)),
-                Play::Go(ONE, 3),
-                Play::Tells(0, kept(EXT, Kind::Bytes, 4096, Cause::Unload)),
-                Play::Idle(MANAGER, true),
-            ],
-        ),
-        // The range is used again over words that aren't 0.
-        (
-            "range-used-again",
-            896,
-            &[
-                Play::Do(MANAGER, load(EXT)),
-                Play::Go(MANAGER, 1),
-                Play::Do(ONE, enter(EXT)),
-                Play::Do(ONE, open(1, EXT, 0, 8192)),
-                Play::Do(ONE, leave(EXT)),
-                Play::Go(ONE, 5),
-                Play::Do(ZERO, split(1, 2, 2)),
-                Play::Go(ZERO, 4),
-                Play::Do(ONE, close(1)),
-                Play::Do(ONE, close(2)),
-                Play::Go(ONE, 6),
-                Play::Do(MANAGER, unload(EXT)),
-                Play::Tells(5, released(EXT, Cause::Unload)),
-                Play::Do(MANAGER, load(TWO)),
-                Play::Go(MANAGER, 1),
-                Play::Do(ZERO, enter(TWO)),
-                Play::Do(ZERO, open(3, TWO, 0, 100)),
-                Play::Go(ZERO, 4),
-                Play::Total(128, 100, 1),
-                Play::Words(0, 128, 100, 2),
-                Play::Words(1, 128, 0, 18_446_744_073_709_551_615),
-            ],
-        ),
-        (
-            "unload-busy",
-            896,
-            &[
-                Play::Do(MANAGER, load(EXT)),
-                Play::Go(MANAGER, 1),
-                Play::Do(ZERO, enter(EXT)),
-                Play::Go(ZERO, 1),
-                Play::Do(MANAGER, unload(EXT)),
-                Play::Refused(MANAGER, StepRefused::Busy(1)),
-            ],
-        ),
-        (
-            "enter-while-held",
-            896,
-            &[
-                Play::Do(MANAGER, load(EXT)),
-                Play::Go(MANAGER, 1),
-                Play::Do(MANAGER, unload(EXT)),
-                Play::Go(MANAGER, 2),
-                Play::Do(ZERO, enter(EXT)),
-                Play::Refused(ZERO, StepRefused::ListHeld),
-            ],
-        ),
-        // A clean with nothing dead is one step, and the area has room for one module.
-        (
-            "no-room-in-the-area",
-            1,
-            &[
-                Play::Do(MANAGER, Op::Clean),
-                Play::Go(MANAGER, 1),
-                Play::Idle(MANAGER, true),
-                Play::Do(MANAGER, load(EXT)),
-                Play::Do(MANAGER, load(TWO)),
-                Play::Go(MANAGER, 1),
-                Play::Refused(MANAGER, StepRefused::NoRoom),
-            ],
-        ),
-        (
-            "already-loaded",
-            1,
-            &[
-                Play::Do(MANAGER, load(EXT)),
-                Play::Do(MANAGER, load(EXT)),
-                Play::Go(MANAGER, 1),
-                Play::Refused(MANAGER, StepRefused::AlreadyLoaded(EXT)),
-            ],
-        ),
-        // All bytes are read before any call word.
-        (
-            "sweep-order",
-            896,
-            &[
-                Play::Do(MANAGER, load(EXT)),
-                Play::Do(MANAGER, load(TWO)),
-                Play::Go(MANAGER, 2),
-                Play::Do(ZERO, enter(EXT)),
-                Play::Do(ZERO, open(1, EXT, 0, 64)),
-                Play::Do(ZERO, leave(EXT)),
-                Play::Do(ZERO, enter(TWO)),
-                Play::Do(ZERO, open(2, TWO, 0, 32)),
-                Play::Do(ZERO, leave(TWO)),
-                Play::Go(ZERO, 10),
-                Play::Do(MANAGER, unload(EXT)),
-                Play::Do(MANAGER, unload(TWO)),
-                Play::Tells(2, kept(EXT, Kind::Bytes, 64, Cause::Unload)),
-                Play::Tells(2, kept(TWO, Kind::Bytes, 32, Cause::Unload)),
-                Play::Idle(MANAGER, true),
-                Play::Do(ONE, close(1)),
-                Play::Go(ONE, 2),
-                Play::Do(MANAGER, Op::Clean),
-                Play::Tells(4, kept(TWO, Kind::Bytes, 32, Cause::Clean)),
-                Play::Tells(1, kept(EXT, Kind::Calls, 1, Cause::Clean)),
-                Play::Idle(MANAGER, true),
-            ],
-        ),
-    ];
-    for (row, area, plays) in rows {
-        play_all(&rt, rt.alloc(), row, 2, area, plays)?;
-    }
-    Ok(())
+fn an_uneven_split_is_refused(rt: HostRuntime) -> Result<(), Fail> {
+    play_all(
+        &rt,
+        rt.alloc(),
+        4,
+        896,
+        &[
+            Play::Do(ZERO, open(1, 0, 0, 10)),
+            Play::Do(ZERO, split(1, 3, 2)),
+            Play::Go(ZERO, 3),
+            Play::Refused(ZERO, StepRefused::Uneven),
+        ],
+    )
+}
+
+#[test]
+fn a_trim_leaves_some_bytes(rt: HostRuntime) -> Result<(), Fail> {
+    play_all(
+        &rt,
+        rt.alloc(),
+        4,
+        896,
+        &[
+            Play::Do(ZERO, open(1, 0, 0, 12_288)),
+            Play::Do(ZERO, trim(1, 4096)),
+            Play::Go(ZERO, 6),
+            Play::Total(0, 8192, 1),
+            Play::Do(ZERO, trim(1, 8192)),
+            Play::Refused(ZERO, StepRefused::TooSmall),
+        ],
+    )
+}
+
+#[test]
+fn a_key_of_a_swap_under_way_is_not_freed(rt: HostRuntime) -> Result<(), Fail> {
+    play_all(
+        &rt,
+        rt.alloc(),
+        4,
+        896,
+        &[
+            Play::Do(ZERO, open(1, 0, 0, 100)),
+            Play::Do(ZERO, open(2, 0, 1, 200)),
+            Play::Go(ZERO, 6),
+            Play::Do(ONE, Op::Swap { one: 1, two: 2 }),
+            Play::Go(ONE, 1),
+            Play::Total(0, 100, 1),
+            Play::Total(1, 200, 1),
+            Play::Do(ZERO, close(1)),
+            Play::Refused(ZERO, StepRefused::NotLive(1)),
+            Play::Go(ONE, 2),
+            Play::Go(ZERO, 3),
+            Play::Total(0, 100, 1),
+            Play::Total(1, 0, 0),
+        ],
+    )
+}
+
+// A call is seen by the second pass alone.
+#[test]
+fn a_clean_follows_a_kept_range(rt: HostRuntime) -> Result<(), Fail> {
+    play_all(
+        &rt,
+        rt.alloc(),
+        2,
+        896,
+        &[
+            Play::Do(MANAGER, load(EXT)),
+            Play::Go(MANAGER, 1),
+            Play::Do(ZERO, enter(EXT)),
+            Play::Do(ZERO, open(1, EXT, 0, 64)),
+            Play::Do(ZERO, leave(EXT)),
+            Play::Go(ZERO, 5),
+            Play::Do(ONE, close(1)),
+            Play::Go(ONE, 2),
+            Play::Do(MANAGER, unload(EXT)),
+            Play::Tells(4, kept(EXT, Kind::Calls, 1, Cause::Unload)),
+            Play::Idle(MANAGER, true),
+            Play::Go(ONE, 1),
+            Play::Do(MANAGER, Op::Clean),
+            Play::Tells(5, released(EXT, Cause::Clean)),
+            Play::Idle(MANAGER, true),
+        ],
+    )
+}
+
+#[test]
+fn a_module_with_a_cpu_inside_is_busy(rt: HostRuntime) -> Result<(), Fail> {
+    play_all(
+        &rt,
+        rt.alloc(),
+        2,
+        896,
+        &[
+            Play::Do(MANAGER, load(EXT)),
+            Play::Go(MANAGER, 1),
+            Play::Do(ZERO, enter(EXT)),
+            Play::Go(ZERO, 1),
+            Play::Do(MANAGER, unload(EXT)),
+            Play::Refused(MANAGER, StepRefused::Busy(1)),
+        ],
+    )
+}
+
+#[test]
+fn the_manager_holds_the_list(rt: HostRuntime) -> Result<(), Fail> {
+    play_all(
+        &rt,
+        rt.alloc(),
+        2,
+        896,
+        &[
+            Play::Do(MANAGER, load(EXT)),
+            Play::Go(MANAGER, 1),
+            Play::Do(MANAGER, unload(EXT)),
+            Play::Go(MANAGER, 2),
+            Play::Do(ZERO, enter(EXT)),
+            Play::Refused(ZERO, StepRefused::ListHeld),
+        ],
+    )
+}
+
+// All bytes are read before any call word.
+#[test]
+fn a_sweep_reads_bytes_before_calls(rt: HostRuntime) -> Result<(), Fail> {
+    play_all(
+        &rt,
+        rt.alloc(),
+        2,
+        896,
+        &[
+            Play::Do(MANAGER, load(EXT)),
+            Play::Do(MANAGER, load(TWO)),
+            Play::Go(MANAGER, 2),
+            Play::Do(ZERO, enter(EXT)),
+            Play::Do(ZERO, open(1, EXT, 0, 64)),
+            Play::Do(ZERO, leave(EXT)),
+            Play::Do(ZERO, enter(TWO)),
+            Play::Do(ZERO, open(2, TWO, 0, 32)),
+            Play::Do(ZERO, leave(TWO)),
+            Play::Go(ZERO, 10),
+            Play::Do(MANAGER, unload(EXT)),
+            Play::Do(MANAGER, unload(TWO)),
+            Play::Tells(2, kept(EXT, Kind::Bytes, 64, Cause::Unload)),
+            Play::Tells(2, kept(TWO, Kind::Bytes, 32, Cause::Unload)),
+            Play::Idle(MANAGER, true),
+            Play::Do(ONE, close(1)),
+            Play::Go(ONE, 2),
+            Play::Do(MANAGER, Op::Clean),
+            Play::Tells(4, kept(TWO, Kind::Bytes, 32, Cause::Clean)),
+            Play::Tells(1, kept(EXT, Kind::Calls, 1, Cause::Clean)),
+            Play::Idle(MANAGER, true),
+        ],
+    )
 }
 
 #[test]
@@ -542,5 +486,23 @@ fn steps_run_until_one_is_refused(rt: HostRuntime) -> Result<(), Fail> {
     assert!(rt; act(&mut core, Play::Do(ONE, open(1, 0, 0, 64)))?);
     assert_eq!(rt; run_steps(&mut core, &[ZERO, ZERO, ONE, ZERO]), 2);
     assert_eq!(rt; run_steps(&mut core, &[ZERO]), 1);
+    Ok(())
+}
+
+// With two CPUs a sweep reads on over one word of a tag, and the last CPU's word is a step of its own.
+#[test]
+fn a_sweep_reads_on(rt: HostRuntime) -> Result<(), Fail> {
+    let mut core = start(&rt, rt.alloc(), 2, 896)?;
+    assert_eq!(rt; core.read_on(5), 0);
+    assert!(rt; act(&mut core, Play::Do(MANAGER, load(EXT)))?);
+    assert!(rt; act(&mut core, Play::Do(MANAGER, unload(EXT)))?);
+    assert!(rt; act(&mut core, Play::Go(MANAGER, 2))?);
+    assert_eq!(rt; core.read_on(0), 0);
+    assert_eq!(rt; core.read_on(5), 1);
+    assert_eq!(rt; core.read_on(5), 0);
+    assert!(rt; act(&mut core, Play::Go(MANAGER, 1))?);
+    assert_eq!(rt; core.read_on(5), 1);
+    assert!(rt; act(&mut core, Play::Go(MANAGER, 1))?);
+    assert!(rt; act(&mut core, Play::Tells(0, released(EXT, Cause::Unload)))?);
     Ok(())
 }
