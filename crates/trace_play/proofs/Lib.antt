@@ -15,3 +15,8 @@ pub mod MachineSound
 pub mod CellsApart
 pub mod Accounted
 pub mod TotalsHold
+pub mod CpusTold
+pub mod NeedsMet
+pub mod HooksFit
+pub mod ModulesHold
+pub mod ReadyHolds

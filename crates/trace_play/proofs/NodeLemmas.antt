@@ -44,7 +44,7 @@ out_of_range frame start order e =
     (λ low. by_test {P = (frame < start) ⊎ (start + 2 ^ order ≤ frame)} (ltb frame (start + 2 ^ order)) (λ high. let no : ⊥ = cc (e, low, high, ap (λ b. b && ltb frame (start + 2 ^ order)) low) in absurd no) (λ high. inr (ltb-false frame (start + 2 ^ order) high)))
     (λ low. inl (leb-false start frame low))
 
-is_in_it : (frame start order : ℕ) → start ≤ frame → frame < start + 2 ^ order → is_in frame start order ≡ true
+pub is_in_it : (frame start order : ℕ) → start ≤ frame → frame < start + 2 ^ order → is_in frame start order ≡ true
 is_in_it frame start order low high = ap (λ b. b && ltb frame (start + 2 ^ order)) (le-leb start frame low) ∙ lt-ltb frame (start + 2 ^ order) high
 
 pub starts_in : (start order : ℕ) → is_in start start order ≡ true
@@ -109,7 +109,7 @@ has_slab_within [] i slab e = let no : ⊥ = cc in absurd no
 has_slab_within (x ∷ xs) zero slab e = omega arith
 has_slab_within (x ∷ xs) (suc i) slab e = let below = has_slab_within xs i slab e in omega arith
 
-taken_within : (frames : List Bool) (i : ℕ) → get_or frames i false ≡ true → i < length frames
+pub taken_within : (frames : List Bool) (i : ℕ) → get_or frames i false ≡ true → i < length frames
 taken_within [] i e = let no : ⊥ = cc in absurd no
 taken_within (x ∷ xs) zero e = omega arith
 taken_within (x ∷ xs) (suc i) e = let below = taken_within xs i e in omega arith
@@ -128,7 +128,7 @@ bool_set_at bits i j x below =
 
 -- ---- a block is given
 
-own_home : (c : ℕ) (b : Bool) → one_if (eqb c c && b) ≡ one_if b
+pub own_home : (c : ℕ) (b : Bool) → one_if (eqb c c && b) ≡ one_if b
 own_home c b = ap (λ t. one_if (t && b)) (same_number c)
 
 module _ (node : NodeState) (all all' : (Storage → ℕ) → ℕ) (sound : NodeSound node all) where
@@ -349,7 +349,7 @@ lowest_is vectors = (λ u e. (position-Some not vectors u false e).0, λ v. by (
     by None h v e = let no : ⊥ = cc in absurd no
     by (Some u) h v e = ap (λ n. get_or vectors n false) (eqb-true v u e) ∙ h u refl
 
-must_be : (n : ℕ) (b : Bool) → n ≡ one_if b → 0 < n → b ≡ true
+pub must_be : (n : ℕ) (b : Bool) → n ≡ one_if b → 0 < n → b ≡ true
 must_be n true e h = refl
 must_be n false e h = absurd (omega arith)
 

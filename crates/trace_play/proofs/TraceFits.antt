@@ -54,7 +54,7 @@ modules_seats ops m = fold_keeps (λ (x : Machine). x.seats ≡ m.seats) module_
 pub cpus_count : (ops : List OnOp) (m : Machine) → length (cpus_done ops m).seats ≡ length m.seats
 cpus_count ops m = fold_keeps (λ (x : Machine). length x.seats ≡ length m.seats) (cpu_done ops) (λ x cpu h. length-set x.seats cpu _ ∙ h) (range_with_len 0 (length m.seats)) m refl
 
-round_count : (ops : List OnOp) (m : Machine) → length (round_done ops m).seats ≡ length m.seats
+pub round_count : (ops : List OnOp) (m : Machine) → length (round_done ops m).seats ≡ length m.seats
 round_count ops m =
     let marked = modules_done ops (cpus_done ops m) in
     fold_keeps (λ (x : Machine). length x.seats ≡ length marked.seats) storage_home (λ x given h. length-set x.seats _ _ ∙ h) (on_its_way marked) (none_on_its_way marked) (length-map marked.seats none_returning)

@@ -178,7 +178,7 @@ module _ (cpu count : ℕ) (nodes : ℕ → NodeState) (elsewhere : (Storage →
     pub homes : all (is_away count) ≡ 0
 
   module _ (below : cpu < count) (are : (h : ℕ) → h < count → h ≢ cpu → (nodes h).node.cpu ≡ h) where
-    same_sums : (node : NodeState) (all all' : (Storage → ℕ) → ℕ) → ((weight : Storage → ℕ) → all' weight ≡ all weight) → AllSound node all → AllSound node all'
+    pub same_sums : (node : NodeState) (all all' : (Storage → ℕ) → ℕ) → ((weight : Storage → ℕ) → all' weight ≡ all weight) → AllSound node all → AllSound node all'
     same_sums node all all' same s = record {
       cpu_is = s.cpu_is;
       own = same_node node all all' (record { frames = λ f. same _; objects = λ f p v. same _; cells = λ v p. same _ }) s.own;

@@ -12,4 +12,5 @@ pub mod Fitting
 pub mod Owned
 pub mod Sound
 pub mod Totals
+pub mod Ready
 pub mod Rows

@@ -2,7 +2,7 @@
 
 ghost use Rattle.std.specs.Prelude.{ℕ, List, None, Ok, Option, true, ◌++◌, ◌≡◌, ◌≤◌};
 ghost use Rattle.round_check.specs.Rounds.{IsRound};
-ghost use Rattle.round_check.specs.Walk.{rounds_of};
+ghost use Rattle.round_check.specs.Walk.{rounds_of, walk_ops};
 ghost use Rattle.round_check.specs.declared.walk.Walk.{Walk};
 ghost use Rattle.tag_model.specs.Index.{Slot};
 ghost use Rattle.trace.specs.Formed.{IsFormedTrace};
@@ -12,6 +12,7 @@ ghost use Rattle.trace.specs.declared.traces.Trace.{Trace};
 ghost use Rattle.trace_play.specs.Alone.{rises};
 ghost use Rattle.trace_play.specs.Fits.{RoundFits};
 ghost use Rattle.trace_play.specs.Play.{played_so_far};
+ghost use Rattle.trace_play.specs.Ready.{IsReady};
 ghost use Rattle.trace_play.specs.Sound.{references_in, IsSound};
 ghost use Rattle.trace_play.specs.Totals.{IsAccounted};
 
@@ -44,4 +45,11 @@ pub fn no_cell_holds_two()
 pub fn totals_are_live()
     ensures { (trace : Trace) (top : Option ℕ) → IsFormedTrace trace → rounds_of trace ≡ Ok tt → (front back : List Item) → trace.body ≡ front ++ back
         → IsAccounted (played_so_far trace top front).played.machine }
+{}
+
+/// Each round of a checked trace is ready, where no `load` before it was refused: the modules that its CPUs are inside
+/// are loaded, and each CPU has all that its ops need.
+pub fn checked_rounds_are_ready()
+    ensures { (trace : Trace) (top : Option ℕ) (ops : List OnOp) (before after : Walk) → IsFormedTrace trace → rounds_of trace ≡ Ok tt → (round : IsRound trace ops before)
+        → (played_so_far trace top round.front).refused ≡ None → walk_ops ops before ≡ Ok after → IsReady trace ops before after (played_so_far trace top round.front).played.machine }
 {}
