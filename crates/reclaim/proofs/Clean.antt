@@ -1,7 +1,7 @@
 -- A cleaning: what its sweep leaves, and what its releases leave.
-use Rattle.std.proofs.Common.{◌≡◌, ℕ, ◌+◌, ◌*◌, ◌<◌, ◌≤◌, ◌==◌, ◌&&◌, ◌||◌, List, [], ◌∷◌, length, filter, map, sum_by, All, Option, None, Some, refl, sym, ap, ◌∙◌, subst, arith, Bool, true, false, not, cond, eq-eqb, ne_eqb, if◌then◌else◌}
+use Rattle.std.proofs.Common.{◌≡◌, ℕ, ◌+◌, ◌*◌, ◌<◌, ◌≤◌, ◌==◌, ◌&&◌, ◌||◌, List, [], ◌∷◌, length, filter, map, All, None, refl, sym, ap, ◌∙◌, subst, arith, Bool, true, false, not, cond, eq-eqb, ne_eqb, if◌then◌else◌}
 use Rattle.std.specs.List.{list_any}
-use Rattle.std.proofs.lemmas.Bool.{and_from, or_from, or_left, or_right, or_parts, cond-true, false≢true}
+use Rattle.std.proofs.lemmas.Bool.{and_from, or_from, or_left, or_right, cond-true, false≢true}
 use Rattle.std.proofs.lemmas.List.Elements.{All-cons, All-nil, All-head, All-tail, All-weaker}
 use Rattle.std.proofs.lemmas.List.Sums.{sum_by-cons}
 use Rattle.tag_model.specs.declared.shape.Shape.{Shape}
@@ -16,12 +16,10 @@ use Rattle.tag_model.specs.Laws.{is_listed, is_reading, rises_from, ids_of, of_r
 use Rattle.tag_model.specs.WordState.{one_if}
 use Rattle.tag_model.proofs.Ids.{rises_cons}
 use Rattle.tag_model.specs.StepRules.{Sweeps, dead_ids}
-use Rattle.tag_model.specs.Sweeping.{are_above_zero, has_stop, ids_left, is_accounted, is_off, reads_left, tags_of}
+use Rattle.tag_model.specs.Sweeping.{are_above_zero, has_stop, ids_left, is_accounted, is_off, tags_of}
 use Rattle.tag_model.proofs.Accounted.{begins_off, sweeps_account}
 use Rattle.tag_model.proofs.SweepSteps.{sweeps_at_most, sweeps_read}
 use Rattle.module_area.specs.declared.entry.Entry.{Entry}
-use Rattle.module_area.specs.declared.entry.State.{State}
-use Rattle.module_area.specs.declared.entry.State.TheVariants.{Dead, Loaded}
 use Rattle.module_area.specs.Entries.{is_dead}
 use Rattle.module_area.specs.Area.{Area, IsBook}
 use Rattle.module_list.specs.Listing.{releasable, swept}
@@ -29,12 +27,12 @@ use Rattle.core_list.specs.ListState.{record_of}
 use Rattle.core_list.proofs.Split.{book_rises}
 use Rattle.reclaim.specs.State.{LockedShown, IsLocked, part_of, is_still}
 use Rattle.reclaim.specs.Steps.{Reads, with_listing}
-use Rattle.reclaim.specs.Sweeps.{Cleaned, Releases, dead_tags, is_kept, with_entries}
-use Rattle.reclaim.proofs.Reading.{ReadsKeep, reads_above_zero, reads_account, reads_keep, reads_off, reads_some}
+use Rattle.reclaim.specs.Sweeps.{Cleaned, Releases, dead_tags, is_kept}
+use Rattle.reclaim.proofs.Reading.{reads_above_zero, reads_account, reads_keep, reads_off, reads_some}
 use Rattle.tag_rule.specs.Shown.{ListShown}
 use Rattle.tag_section.specs.Section.{Section}
 use Rattle.reclaim.specs.Tied.{AreTied}
-use Rattle.reclaim.proofs.Gone.{AreGone, releases_are, releases_still}
+use Rattle.reclaim.proofs.Gone.{releases_are, releases_still}
 use Rattle.reclaim.proofs.Tying.{ties}
 
 -- ---- a sweep that isn't reading, and has nothing to release, has no id left

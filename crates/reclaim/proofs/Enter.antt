@@ -1,7 +1,7 @@
 -- A CPU comes into a module, and goes out: the book and the list change alike.
-use Rattle.std.proofs.Common.{◌≡◌, ℕ, ◌+◌, ◌<◌, ◌≤◌, ◌==◌, ◌&&◌, ◌||◌, nat_le, List, [], ◌∷◌, ◌++◌, map, find, count_by, All, Option, None, Some, IsSomeAnd, refl, sym, ap, ◌∙◌, subst, arith, Bool, true, false, not, cond, eqb-true, eq-eqb, leb-true}
+use Rattle.std.proofs.Common.{◌≡◌, ℕ, ◌+◌, ◌<◌, ◌≤◌, ◌==◌, ◌&&◌, ◌||◌, nat_le, List, [], ◌∷◌, map, find, count_by, All, None, Some, IsSomeAnd, refl, sym, ap, ◌∙◌, subst, arith, Bool, true, false, not, cond, eqb-true, eq-eqb, leb-true}
 use Rattle.std.specs.List.{list_any}
-use Rattle.std.proofs.lemmas.Bool.{and_from, and_parts, or_left, cond-true, cond-false, cond_both, false≢true, not-true}
+use Rattle.std.proofs.lemmas.Bool.{and_from, and_parts, or_left, cond-true, cond-false, cond_both, false≢true}
 use Rattle.std.proofs.lemmas.List.Elements.{All-map, All-weaker}
 use Rattle.tag_model.specs.declared.shape.Shape.{Shape}
 use Rattle.tag_model.specs.declared.state.CpuPart.{CpuPart}
@@ -9,7 +9,6 @@ use Rattle.tag_model.specs.declared.state.ListPart.{ListPart}
 use Rattle.tag_model.specs.declared.state.Record.{Record}
 use Rattle.tag_model.specs.declared.state.Run.{Run}
 use Rattle.tag_model.specs.Laws.{is_loaded_as}
-use Rattle.tag_model.specs.Shape.{IsChecked}
 use Rattle.std.proofs.lemmas.Option.{same_Some}
 use Rattle.tag_model.proofs.Found.{any_at, count_at, found_any}
 use Rattle.tag_rule.specs.Listed.{changed, has_run, is_loaded, with_run, without_run}
@@ -25,12 +24,12 @@ use Rattle.module_area.proofs.BookLemmas.{KeepsRange}
 use Rattle.module_area.proofs.EntryLemmas.{find_some}
 use Rattle.module_list.specs.Listing as listing
 use Rattle.module_list.specs.Listing.{Listing, list_part, listing_of, record_in}
-use Rattle.core_list.specs.ListState.{ListState, listed, record_of, run_of}
+use Rattle.core_list.specs.ListState.{ListState, record_of, run_of}
 use Rattle.core_list.proofs.Kept.{IsBook-map}
 use Rattle.core_list.proofs.Listed.{listed_entered, listed_left, record_found}
 use Rattle.core_list.proofs.Split.{book_entry_at, records_at, the_entry}
 use Rattle.tag_rule.specs.Runs.{covers_run, is_on, runs_between, with_away}
-use Rattle.reclaim.specs.State.{IsLocked, IsNamed, LockedShown, entered_locked, left_locked, part_of, with_changed}
+use Rattle.reclaim.specs.State.{IsLocked, IsNamed, LockedShown, entered_locked, left_locked, part_of}
 
 -- ---- a change of one entry
 

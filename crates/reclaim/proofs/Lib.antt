@@ -6,3 +6,8 @@ pub mod Unload
 pub mod Enter
 pub mod Load
 pub mod Tells
+pub mod QuietSums
+pub mod QuietParts
+pub mod QuietSweep
+pub mod QuietClean
+pub mod Releasing

@@ -1,15 +1,13 @@
 -- A load: the least start, what it asks of the list, and what it leaves.
-use Rattle.std.proofs.Common.{◌≡◌, ◌≢◌, ℕ, ◌+◌, ◌<◌, ◌≤◌, ◌==◌, ◌&&◌, ◌||◌, ◌⊎◌, nat_le, nat_lt, List, [], ◌∷◌, ◌++◌, length, filter, map, All, Option, None, Some, Result, Ok, Err, IfOk, IsOk, if◌then◌else◌, ne_eqb, le-ltb, refl, sym, ap, ◌∙◌, subst, inl, inr, arith, Bool, true, false, not, cond, MatchBool, MatchOption, le-leb, lt-ltb, ltb-true, eqb-true, eq-eqb}
+use Rattle.std.proofs.Common.{◌≡◌, ◌≢◌, ℕ, ◌+◌, ◌<◌, ◌≤◌, ◌==◌, ◌||◌, ◌⊎◌, nat_le, nat_lt, List, [], ◌∷◌, ◌++◌, length, map, All, Option, None, Some, Result, Ok, Err, IfOk, IsOk, if◌then◌else◌, ne_eqb, le-ltb, refl, sym, ap, ◌∙◌, subst, inl, inr, arith, Bool, true, false, MatchBool, MatchOption, le-leb, ltb-true}
 use Rattle.std.specs.List.{list_all, list_any}
 use Rattle.std.specs.Option.{unwrap_or}
 use Rattle.std.proofs.lemmas.Bool.{cond-true, cond-false, or_from, and_cases, and_from, and_parts, or_left, or_right, or_parts, ltb-false}
 use Rattle.std.proofs.lemmas.List.{map-append}
 use Rattle.std.proofs.lemmas.List.Elements.{All-cons, All-filter, All-nil, All-push}
-use Rattle.tag_model.specs.declared.shape.Shape.{Shape}
 use Rattle.tag_model.specs.declared.state.ListPart.{ListPart}
 use Rattle.tag_model.specs.declared.state.Record.{Record}
 use Rattle.tag_rule.specs.Listed.{MayLoad, with_loaded}
-use Rattle.tag_rule.specs.Shown.{ListShown}
 use Rattle.module_area.specs.declared.entry.Entry.{Entry}
 use Rattle.module_area.specs.declared.entry.State.TheVariants.{Loaded}
 use Rattle.module_area.specs.Entries.{IsLoadedAs, meets}

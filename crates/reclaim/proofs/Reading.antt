@@ -1,16 +1,13 @@
 -- What the reads of a sweep keep, and what they come to.
-use Rattle.std.proofs.Common.{◌≡◌, ℕ, ◌+◌, ◌<◌, ◌≤◌, List, [], ◌∷◌, length, slice_index, IsSome, refl, ap, ◌∙◌, subst, arith, true, false}
+use Rattle.std.proofs.Common.{◌≡◌, ℕ, ◌+◌, ◌<◌, ◌≤◌, List, length, slice_index, IsSome, refl, ap, ◌∙◌, subst, arith, true, false}
 use Rattle.std.proofs.lemmas.Bool.{both_ways, false≢true}
 use Rattle.std.proofs.lemmas.List.{length-append}
 use Rattle.tag_model.specs.declared.shape.Shape.{Shape}
 use Rattle.tag_model.specs.declared.state.ListPart.{ListPart}
 use Rattle.tag_model.specs.declared.state.Reader.{Reader}
-use Rattle.tag_model.specs.declared.state.Record.{Record}
-use Rattle.tag_model.specs.declared.state.Run.{Run}
-use Rattle.tag_model.specs.declared.state.Stop.{Stop}
 use Rattle.tag_model.specs.declared.state.Sweep.{Sweep}
 use Rattle.tag_model.specs.declared.state.Sweep.TheVariants as sweep
-use Rattle.tag_model.specs.StepRules.{stop_after, sweep_after}
+use Rattle.tag_model.specs.StepRules.{stop_after}
 use Rattle.tag_model.specs.WordState.{word_place}
 use Rattle.module_list.specs.Listing.{reader_of, sum_read}
 use Rattle.tag_model.specs.Sweeping.{are_above_zero, ids_left, is_accounted, is_off, reads_left}

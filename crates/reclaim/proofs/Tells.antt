@@ -1,5 +1,5 @@
 -- What a cell that meets the list tells of the book.
-use Rattle.std.proofs.Common.{◌≡◌, ◌≢◌, ℕ, ◌<◌, ◌≤◌, ◌==◌, ◌&&◌, nat_lt, List, map, IsSomeAnd, Option, None, Some, Result, Ok, Err, IfOk, IsNone, ◌↔◌, refl, sym, ap, ◌∙◌, subst, arith, Bool, true, false, cond, ne_eqb}
+use Rattle.std.proofs.Common.{◌≡◌, ◌≢◌, ℕ, ◌==◌, ◌&&◌, nat_lt, map, IsSomeAnd, Option, Some, Result, Ok, Err, IfOk, IsNone, ◌↔◌, sym, ◌∙◌, subst, arith, true, ne_eqb}
 use Rattle.std.specs.List.{list_any}
 use Rattle.std.specs.declared.alloc.AllocError.{AllocError}
 use Rattle.std.proofs.lemmas.Bool.{cond-false, false≢true}

@@ -1,5 +1,5 @@
 -- A book and a list that come to a value, and what holds of it.
-use Rattle.std.proofs.Common.{◌≡◌, ℕ, List, [], ◌∷◌, map, filter, All, Some, IsSomeAnd, refl, sym, ap, ◌∙◌, subst, true, not, ◌==◌}
+use Rattle.std.proofs.Common.{◌≡◌, ℕ, List, [], ◌∷◌, map, Some, IsSomeAnd, refl, sym, ap, ◌∙◌, subst, true, not, ◌==◌}
 use Rattle.std.proofs.lemmas.List.Elements.{All-filter}
 use Rattle.tag_model.specs.declared.state.ListPart.{ListPart}
 use Rattle.tag_model.specs.declared.state.Record.{Record}
@@ -21,7 +21,7 @@ use Rattle.core_list.proofs.Methods.{may_release_first, releases_dead, releasing
 use Rattle.core_list.proofs.Split.{records_without}
 use Rattle.reclaim.specs.State.{IsLocked, IsNamed, LockedShown, part_of}
 use Rattle.reclaim.specs.Steps.{with_listing}
-use Rattle.reclaim.specs.Sweeps.{released, with_entries}
+use Rattle.reclaim.specs.Sweeps.{released}
 use Rattle.reclaim.specs.Tied.{AreTied, shown}
 
 -- the fields show the value

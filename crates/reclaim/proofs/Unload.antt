@@ -1,33 +1,29 @@
 -- An unload: what its sweep comes to.
-use Rattle.std.proofs.Common.{◌≡◌, ◌≢◌, ℕ, ◌+◌, ◌*◌, ◌<◌, ◌≤◌, ◌==◌, ◌&&◌, ◌||◌, List, [], ◌∷◌, ◌++◌, length, filter, map, All, Option, None, Some, IsSomeAnd, Result, Ok, Err, IfOk, IsOk, OnErr, MatchOption, slice_get, refl, sym, ap, ◌∙◌, subst, arith, Bool, true, false, not, cond, eqb-true, eq-eqb, ne_eqb}
+use Rattle.std.proofs.Common.{◌≡◌, ◌≢◌, ℕ, ◌+◌, ◌*◌, ◌<◌, ◌≤◌, ◌==◌, ◌&&◌, ◌||◌, List, [], ◌∷◌, ◌++◌, length, map, All, Option, None, Some, IsSomeAnd, Result, Ok, Err, IfOk, IsOk, OnErr, MatchOption, slice_get, refl, sym, ap, ◌∙◌, subst, arith, Bool, true, false, not, cond, eqb-true, eq-eqb}
 use Rattle.std.specs.List.{list_any}
-use Rattle.std.proofs.lemmas.Bool.{and_from, and_parts, or_left, or_right, or_parts, cond-true, cond-false, cond_both, false≢true, both_ways}
-use Rattle.std.proofs.lemmas.List.Elements.{All-cons, All-nil, All-head, All-tail, All-weaker, All-map}
-use Rattle.tag_model.specs.declared.shape.Shape.{Shape}
+use Rattle.std.proofs.lemmas.Bool.{and_from, cond-true, cond-false, cond_both, false≢true}
+use Rattle.std.proofs.lemmas.List.Elements.{All-weaker, All-map}
 use Rattle.tag_model.specs.declared.state.Kind.TheVariants.{Bytes}
 use Rattle.tag_model.specs.declared.state.ListPart.{ListPart}
 use Rattle.tag_model.specs.declared.state.Record.{Record}
-use Rattle.tag_model.specs.declared.state.Run.{Run}
 use Rattle.tag_model.specs.declared.state.Stop.{Stop}
 use Rattle.tag_model.specs.declared.state.Sweep.{Sweep}
 use Rattle.tag_model.specs.declared.state.Sweep.TheVariants as sweep
-use Rattle.tag_model.specs.Laws.{ids_of, is_listed, rises_from}
+use Rattle.tag_model.specs.Laws.{is_listed}
 use Rattle.tag_model.specs.StepRules.{MarksDead, begins_pass}
-use Rattle.tag_model.specs.Sweeping.{are_above_zero, has_stop, ids_left, is_accounted, reads_left}
+use Rattle.tag_model.specs.Sweeping.{are_above_zero, has_stop, ids_left, is_accounted}
 use Rattle.tag_model.proofs.Accounted.{marks_account}
 use Rattle.tag_model.proofs.Found.{any_at}
 use Rattle.tag_model.proofs.SweepSteps.{marks_at_most}
 use Rattle.tag_rule.specs.Shown.{Board, ListShown}
 use Rattle.tag_section.specs.Section.{Section}
 use Rattle.module_area.specs.declared.entry.Entry.{Entry}
-use Rattle.module_area.specs.declared.entry.State.{State}
-use Rattle.module_area.specs.declared.entry.State.TheVariants.{Dead, Loaded}
+use Rattle.module_area.specs.declared.entry.State.TheVariants.{Loaded}
 use Rattle.module_area.specs.Entries.{entry_of, is_dead, kept, with_entry, without_entry}
-use Rattle.module_area.specs.Area.{Area, IsBook}
-use Rattle.module_list.specs.Listing as listing
-use Rattle.module_list.specs.Listing.{Listing, dead_record, listing_of, marked_dead, record_in, releasable}
+use Rattle.module_area.specs.Area.{IsBook}
+use Rattle.module_list.specs.Listing.{Listing, dead_record, listing_of, marked_dead, releasable}
 use Rattle.module_list.proofs.At.{record_at}
-use Rattle.core_list.specs.ListState.{ListState, dead_list, listed, record_of}
+use Rattle.core_list.specs.ListState.{ListState, record_of}
 use Rattle.core_list.proofs.Listed.{listed_dead, record_found}
 use Rattle.core_list.proofs.Split.{book_entry_at, book_rises, records_at, records_changed}
 use Rattle.reclaim.specs.declared.answers.Reclaim.{Reclaim}

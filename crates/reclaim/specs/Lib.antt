@@ -4,4 +4,5 @@ pub mod Sweeps
 pub mod Refusals
 pub mod Loading
 pub mod Telling
+pub mod Quiet
 pub mod Tied

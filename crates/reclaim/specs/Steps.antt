@@ -1,5 +1,5 @@
 -- What the steps of a sweep make of the list's share of the word state.
-use Rattle.std.specs.Prelude.{◌≡◌, ℕ, ◌+◌, ◌<◌, IsTrue, List}
+use Rattle.std.specs.Prelude.{ℕ, ◌<◌, IsTrue, List}
 use Rattle.tag_model.specs.declared.shape.Shape.{Shape}
 use Rattle.tag_model.specs.declared.state.CpuPart.{CpuPart}
 use Rattle.tag_model.specs.declared.state.ListPart.{ListPart}

@@ -1,9 +1,7 @@
 -- What an unload and a cleaning leave: a dead module stays exactly where the sweep that the call began has a stop of it.
-use Rattle.std.specs.Prelude.{◌≡◌, ◌≢◌, ℕ, ◌+◌, ◌*◌, ◌<◌, ◌≤◌, ◌||◌, not, Bool, IsTrue, Some, IsSomeAnd, if◌then◌else◌, List, [], ◌∷◌, ◌++◌, filter, length, sum_by}
+use Rattle.std.specs.Prelude.{◌≡◌, ◌≢◌, ℕ, ◌+◌, ◌*◌, ◌<◌, ◌≤◌, ◌||◌, not, Bool, IsTrue, Some, IsSomeAnd, if◌then◌else◌, List, [], ◌∷◌, filter, length, sum_by}
 use Rattle.std.specs.List.{list_any}
-use Rattle.tag_model.specs.declared.state.Kind.{Kind}
 use Rattle.tag_model.specs.declared.state.Stop.{Stop}
-use Rattle.tag_model.specs.declared.state.Sweep.{Sweep}
 use Rattle.tag_model.specs.declared.state.Sweep.TheVariants as sweep
 use Rattle.tag_model.specs.StepRules.{without_id}
 use Rattle.tag_model.specs.Sweeping.{are_above_zero, has_stop, ids_left}

@@ -1,7 +1,7 @@
 //! The module list behind its lock. The one call that takes the lock answers the guard and nothing else; what is done
 //! under it is said by the calls on the value.
 
-ghost use Rattle.std.specs.Prelude.{◌≡◌, ◌++◌, ◌∷◌, ◌+◌, ◌<◌, ◌↔◌, [], All, Err, IfOk, IsErr, IsNone, IsOk, IsTrue, MatchOption, None, OnErr, OnOk, Some, false, length, map};
+ghost use Rattle.std.specs.Prelude.{◌≡◌, ◌++◌, ◌∷◌, ◌+◌, ◌<◌, ◌↔◌, [], All, Err, IfOk, IsErr, IsNone, IsOk, IsTrue, MatchOption, None, OnErr, OnOk, Some, false, filter, length, map};
 ghost use Rattle.std.specs.List.{range_with_len};
 ghost use Rattle.core_list.specs.ListState.{run_of};
 ghost use Rattle.module_area.specs.Entries.{entry_of, id_loaded};
@@ -10,14 +10,16 @@ ghost use Rattle.tag_rule.specs.Listed.{has_run};
 ghost use Rattle.tag_rule.specs.Runs.{other_runs, with_runs};
 ghost use Rattle.tag_rule.specs.Shown.{CpuShown};
 ghost use Rattle.reclaim.specs.Loading.{LoadEnds, early_refusal, tags_in};
+ghost use Rattle.reclaim.specs.Quiet.{is_unquiet};
 ghost use Rattle.reclaim.specs.Refusals.{HasLoaded, unload_refusal};
 ghost use Rattle.reclaim.specs.State.{entered_locked, left_locked};
-ghost use Rattle.reclaim.specs.Sweeps.{Cleaned, Unloaded};
+ghost use Rattle.reclaim.specs.Sweeps.{Cleaned, Unloaded, with_entries};
 ghost use Rattle.reclaim.specs.Telling.{IsUntold, TellsTag};
 
 use crate::cleaning::clean_locked;
 use crate::entering::{enter_locked, leave_locked, loaded_locked};
 use crate::loading::load_locked;
+use crate::quiet::clean_quiet_locked;
 use crate::telling::tag_of_locked;
 use crate::unloading::unload_locked;
 use crate::{Locked, NotLoaded, Reclaim, UnloadError};
@@ -147,5 +149,16 @@ impl<N: Name> Listed<N> {
         ensures same { (self.new.locked ≡ self.old.locked) × (cell.new ≡ cell.old) }
     {
         tag_of_locked(&mut self.locked, cell, out)
+    }
+
+    /// As `clean_quiet_locked`.
+    pub fn clean_quiet(&mut self, cpus: &mut [CpuSeat]) -> u32
+        requires tables { All (λ (c : CpuShown). c.board ≡ self.old.locked.board) cpus.old }
+        requires all { map (λ (c : CpuShown). c.part.number) cpus.old ≡ range_with_len 0 self.old.locked.board.shape.cpus }
+        ensures cleaned { Cleaned self.old.locked self.new.locked result }
+        ensures exact { self.new.locked.area ≡ with_entries (filter (is_unquiet cpus.old) self.old.locked.area.entries) self.old.locked }
+        ensures same { cpus.new ≡ cpus.old }
+    {
+        clean_quiet_locked(&mut self.locked, cpus)
     }
 }

@@ -1,9 +1,8 @@
-use Rattle.std.proofs.Common.{◌≡◌, refl, sym, ap, ◌∙◌, subst, map}
+use Rattle.std.proofs.Common.{◌≡◌, refl, ap, ◌∙◌, subst}
 use Rattle.std.specs.Arc.{arc_value}
 use Rattle.tag_model.specs.declared.state.ListPart.{ListPart}
 use Rattle.tag_rule.specs.Shown.{Board, ListShown}
 use Rattle.module_list.specs.Listing.{swept}
-use Rattle.core_list.specs.ListState.{record_of}
 use Rattle.reclaim.specs.State.{LockedShown, part_of}
 use Rattle.reclaim.specs.Steps.{Reads, with_listing}
 use Rattle.reclaim.specs.Sweeps.{Cleaned}

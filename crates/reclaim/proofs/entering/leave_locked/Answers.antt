@@ -1,8 +1,8 @@
-use Rattle.std.proofs.Common.{◌≡◌, refl, sym, subst, ap, ◌∙◌}
+use Rattle.std.proofs.Common.{refl, subst, ap, ◌∙◌}
 use Rattle.std.specs.Arc.{arc_value}
 use Rattle.tag_rule.specs.Shown.{ListShown}
 use Rattle.module_area.specs.Area.{IsBook}
-use Rattle.reclaim.specs.State.{LockedShown, left_locked}
+use Rattle.reclaim.specs.State.{left_locked}
 use Rattle.reclaim.specs.Tied.{locked_shown}
 use Rattle.reclaim.proofs.Enter.{found_run, leave_has, leave_part, leave_used, locked_left}
 use Rattle.reclaim.proofs.Tying.{shows, ties}

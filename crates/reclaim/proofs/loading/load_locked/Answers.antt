@@ -1,4 +1,4 @@
-use Rattle.std.proofs.Common.{◌≡◌, All, OnOk, subst}
+use Rattle.std.proofs.Common.{All, OnOk, subst}
 use Rattle.module_area.specs.Entries.{IsLoadedAs}
 use Rattle.reclaim.specs.Loading.{LoadEnds, early_refusal, tags_in}
 use Rattle.reclaim.proofs.Load.{admitted, late_ends, prepared_all}

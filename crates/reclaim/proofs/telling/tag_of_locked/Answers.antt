@@ -1,4 +1,4 @@
-use Rattle.std.proofs.Common.{◌≡◌, IsSomeAnd, ap, subst, sym, ◌∙◌}
+use Rattle.std.proofs.Common.{IsSomeAnd, ap, subst, sym, ◌∙◌}
 use Rattle.module_area.specs.Entries.{Covers, entry_of}
 use Rattle.tag_rule.specs.Shown.{CellShown}
 use Rattle.reclaim.specs.State.{LockedShown}

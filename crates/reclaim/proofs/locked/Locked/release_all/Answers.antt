@@ -1,4 +1,4 @@
-use Rattle.std.proofs.Common.{◌≡◌, ◌+◌, length, sym, ap, ◌∙◌, subst, arith}
+use Rattle.std.proofs.Common.{◌+◌, length, sym, ap, ◌∙◌, subst, arith}
 use Rattle.reclaim.specs.State.{LockedShown}
 use Rattle.reclaim.specs.Sweeps.{Releases, no_release, then_release}
 use Rattle.tag_model.specs.Sweeping.{ids_left}

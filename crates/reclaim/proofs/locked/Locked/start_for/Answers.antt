@@ -1,4 +1,4 @@
-use Rattle.std.proofs.Common.{◌≡◌, ap, ◌∙◌}
+use Rattle.std.proofs.Common.{ap, ◌∙◌}
 use Rattle.module_area.specs.Area.{least_start}
 use Rattle.reclaim.specs.State.{LockedShown}
 use Rattle.reclaim.proofs.Load.{start_is}

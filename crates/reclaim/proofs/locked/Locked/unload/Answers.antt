@@ -1,6 +1,5 @@
 use Rattle.std.proofs.Common.{◌≡◌, IsSomeAnd, None, Some, refl, sym, subst, ap, ◌∙◌, slice_get}
 use Rattle.std.specs.Arc.{arc_value}
-use Rattle.tag_model.specs.declared.state.Stop.{Stop}
 use Rattle.module_area.specs.declared.entry.Entry.{Entry}
 use Rattle.module_area.specs.Entries.{entry_of}
 use Rattle.reclaim.specs.State.{LockedShown}
