@@ -20,3 +20,4 @@ pub mod NeedsMet
 pub mod HooksFit
 pub mod ModulesHold
 pub mod ReadyHolds
+pub mod WordsTotal

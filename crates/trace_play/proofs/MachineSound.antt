@@ -142,11 +142,11 @@ same_parts m now seats live s =
 
 -- with what is still on its way
 pub record OnTheWay (count : ℕ) (m : Machine) (rest : List Storage) : Type 0 where
-  long : length m.seats ≡ count
-  none : (weight : Storage → ℕ) → returning_sum weight m.seats ≡ 0
-  cpus : (cpu : ℕ) → cpu < count → (seat_at cpu m).node.node.cpu ≡ cpu
-  nodes : (cpu : ℕ) → cpu < count → NodeSound (seat_at cpu m).node (λ weight. live_sum weight m.live + sum_by weight rest)
-  homes_are : live_sum (is_away count) m.live + sum_by (is_away count) rest ≡ 0
+  pub long : length m.seats ≡ count
+  pub none : (weight : Storage → ℕ) → returning_sum weight m.seats ≡ 0
+  pub cpus : (cpu : ℕ) → cpu < count → (seat_at cpu m).node.node.cpu ≡ cpu
+  pub nodes : (cpu : ℕ) → cpu < count → NodeSound (seat_at cpu m).node (λ weight. live_sum weight m.live + sum_by weight rest)
+  pub homes_are : live_sum (is_away count) m.live + sum_by (is_away count) rest ≡ 0
 
 way_sum : (weight : Storage → ℕ) (seats : List Seat) → sum_by weight (flat_map (λ (seat : Seat). seat.returning) seats) ≡ returning_sum weight seats
 way_sum weight [] = refl

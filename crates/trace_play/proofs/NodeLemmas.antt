@@ -496,7 +496,7 @@ object_home : (home frame place : ℕ) (vector : Option ℕ) (holds : Held) → 
 object_home home frame place None holds = refl
 object_home home frame place (Some v) holds = refl
 
-cpu_of_vector : (out : Bool) (vector : Option ℕ) (node : NodeState) → (with_vector out vector node).node.cpu ≡ node.node.cpu
+pub cpu_of_vector : (out : Bool) (vector : Option ℕ) (node : NodeState) → (with_vector out vector node).node.cpu ≡ node.node.cpu
 cpu_of_vector out None node = refl
 cpu_of_vector out (Some v) node = refl
 

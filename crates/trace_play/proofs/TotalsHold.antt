@@ -148,7 +148,7 @@ module _ (kind : Kind) (t : ℕ) where
   module_tally m (op.Leave section) = refl
   module_tally m (op.Unload section) = refl
 
-  modules_tally : (ops : List OnOp) (m : Machine) → (modules_done ops m).tally ≡ m.tally
+  pub modules_tally : (ops : List OnOp) (m : Machine) → (modules_done ops m).tally ≡ m.tally
   modules_tally ops m = fold_keeps (λ (x : Machine). x.tally ≡ m.tally) module_done (λ x what h. module_tally x what ∙ h) (map (λ (on : OnOp). on.op) ops) m refl
 
   same_totals : (m now : Machine) → now.tally ≡ m.tally → now.live ≡ m.live → now.seats ≡ m.seats → Totals m → Totals now

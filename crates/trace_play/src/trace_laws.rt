@@ -1,6 +1,6 @@
 //! Laws of what a trace leaves. The functions do nothing: what they promise are laws of the definitions.
 
-ghost use Rattle.std.specs.Prelude.{ℕ, List, None, Ok, Option, true, ◌++◌, ◌≡◌, ◌≤◌};
+ghost use Rattle.std.specs.Prelude.{ℕ, Bool, List, None, Ok, Option, true, ◌++◌, ◌+◌, ◌≡◌, ◌≤◌};
 ghost use Rattle.round_check.specs.Rounds.{IsRound};
 ghost use Rattle.round_check.specs.Walk.{rounds_of, walk_ops};
 ghost use Rattle.round_check.specs.declared.walk.Walk.{Walk};
@@ -12,9 +12,10 @@ ghost use Rattle.trace.specs.declared.traces.Trace.{Trace};
 ghost use Rattle.trace_play.specs.Alone.{rises};
 ghost use Rattle.trace_play.specs.Fits.{RoundFits};
 ghost use Rattle.trace_play.specs.Play.{played_so_far};
+ghost use Rattle.trace_play.specs.Printed.{tag_row};
 ghost use Rattle.trace_play.specs.Ready.{IsReady};
 ghost use Rattle.trace_play.specs.Sound.{references_in, IsSound};
-ghost use Rattle.trace_play.specs.Totals.{IsAccounted};
+ghost use Rattle.trace_play.specs.Totals.{IsAccounted, TellsLive};
 
 /// After any items of any trace no key stands twice in the live list.
 pub fn no_key_stands_twice()
@@ -52,4 +53,12 @@ pub fn totals_are_live()
 pub fn checked_rounds_are_ready()
     ensures { (trace : Trace) (top : Option ℕ) (ops : List OnOp) (before after : Walk) → IsFormedTrace trace → rounds_of trace ≡ Ok tt → (round : IsRound trace ops before)
         → (played_so_far trace top round.front).refused ≡ None → walk_ops ops before ≡ Ok after → IsReady trace ops before after (played_so_far trace top round.front).played.machine }
+{}
+
+/// So each tag's line shows the bytes and the number of the references that are live under it, which are the words of
+/// all CPUs for the tag, added.
+pub fn rows_tell_what_is_live()
+    ensures { (trace : Trace) (top : Option ℕ) → IsFormedTrace trace → rounds_of trace ≡ Ok tt → (front back : List Item) → trace.body ≡ front ++ back
+        → (section start index : ℕ) (kept : Bool)
+        → TellsLive (played_so_far trace top front).played.machine (start + index) (tag_row (played_so_far trace top front).played.machine section start kept index) }
 {}

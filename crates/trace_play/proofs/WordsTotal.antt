@@ -1,0 +1,348 @@
+-- In a checked trace the words of all CPUs for a tag, added, wrap to what is live under it.
+use Rattle.std.proofs.Common.{T, ◌≡◌, ◌≢◌, ℕ, zero, suc, ◌+◌, ◌-◌, ◌*◌, ◌%◌, ◌^◌, ◌<◌, ◌≤◌, Bool, true, false, cond, eqb, leb, ltb, List, [], ◌∷◌, ◌++◌, length, Option, Some, None, Ok, refl, sym, ap, ◌∙◌, subst, arith, eqb-true, lt-ltb, le-leb, ltb-true, ltb-false, leb-true, leb-false, add-zero}
+use Rattle.std.specs.Prelude.{◌&&◌, fold, sum_by, if◌then◌else◌}
+use Rattle.std.specs.Bool.{⊤}
+use Rattle.std.specs.List.{list_all, range_with_len}
+use Rattle.std.specs.Option.{option_map}
+use Rattle.std.proofs.lemmas.Bool.{eqb-false}
+use Rattle.std.proofs.lemmas.List.{length-set}
+use Rattle.std.proofs.lemmas.List.FromFn.{length-map-range_with_len}
+use Rattle.std.proofs.lemmas.List.Folds.{list_all-append}
+use Rattle.std.proofs.lemmas.List.Sums.{sum_by-cons}
+use Rattle.tag_model.specs.declared.state.Tag.{Tag}
+use Rattle.tag_model.specs.declared.state.Held.{Held}
+use Rattle.tag_model.specs.declared.state.Held.TheVariants as held
+use Rattle.tag_model.specs.declared.state.Kind.{Kind}
+use Rattle.tag_model.specs.declared.state.Kind.TheVariants.{Bytes, Calls}
+use Rattle.tag_model.specs.Laws.{same_kind}
+use Rattle.tag_model.specs.Wrap.{wrap, wrap_minus}
+use Rattle.tag_model.specs.Moves.{Move, is_on}
+use Rattle.tag_model.specs.RefMoves.{open_moves, close_moves, split_moves, trim_moves, is_under, all_up, all_down}
+use Rattle.module_area.specs.declared.entry.Entry.{Entry}
+use Rattle.slab_cache.specs.Classes.{class_of, slab_order}
+use Rattle.slab_cache.specs.Classes as classes
+use Rattle.slab_cache.specs.Slabs.{Slab, NodeState, slab_at, with_slab, with_pages, lowest_vector, open_frame, with_place, is_used, slab_held}
+use Rattle.slab_cache.specs.Storage.{Storage, Pages, Object, Uncounted, home_of}
+use Rattle.slab_cache.specs.Giving.{Given, given_block, given_object, block_from, object_from, with_new_slab, object_from_new, slab_or_new, object_or_block, start_in}
+use Rattle.slab_cache.specs.Homing.{Taken, come_home, place_home, without_slab}
+use Rattle.trace.specs.declared.traces.Item.{Item}
+use Rattle.trace.specs.declared.traces.Item.TheVariants as item
+use Rattle.trace.specs.declared.traces.OnOp.{OnOp}
+use Rattle.trace.specs.declared.traces.Trace.{Trace}
+use Rattle.trace.specs.declared.traces.TraceOp.{TraceOp}
+use Rattle.trace.specs.declared.traces.TraceOp.TheVariants as op
+use Rattle.trace.specs.Formed.{IsFormedItem, IsFormedTrace}
+use Rattle.round_check.specs.declared.walk.Walk.{Walk}
+use Rattle.round_check.specs.Formed.{FitsItem}
+use Rattle.round_check.specs.Walk.{begun, walk_item, rounds_of}
+use Rattle.trace_play.specs.Live.{Content, Nothing, Stored, put, content_at, held_of, without}
+use Rattle.trace_play.specs.Worker.{WorkerState, cpu_of, current_tag, with_moves, with_node, with_live, one_given, allocated, is_home, given_back, with_taken, sent_home, done, all_done}
+use Rattle.trace_play.specs.Machine.{Machine, live_cells, fresh_seat, seat_at, worker_at}
+use Rattle.trace_play.specs.Barrier.{ops_of, cpus_done, modules_done, on_its_way, none_on_its_way, storage_home, all_home}
+use Rattle.trace_play.specs.Play.{Played, item_played, played_so_far}
+use Rattle.trace_play.specs.Alone.{rises}
+use Rattle.trace_play.specs.Fits.{AllFit}
+use Rattle.trace_play.specs.Sound.{IsSound}
+use Rattle.tag_model.specs.Reference.{live_total}
+use Rattle.trace_play.specs.Printed.{tag_row}
+use Rattle.trace_play.specs.Totals.{IsAccounted, TellsLive, words_total}
+use Rattle.trace_play.proofs.Rising.{modules_live, worker_rises}
+use Rattle.trace_play.proofs.NodeLemmas.{cpu_of_vector, both_hold}
+use Rattle.trace_play.proofs.WorkerSound.{AllSound, worker_sum, step_sound}
+use Rattle.trace_play.proofs.MachineSound.{elsewhere, to_worker, turns, item_sound, first_sound, after_items, OnTheWay, home_low, one_home, sets_out, same_parts}
+use Rattle.trace_play.proofs.TraceFits.{Between, fits_of_round, modules_seats, round_count}
+use Rattle.trace_play.proofs.TotalsHold.{accounted, modules_tally, totals_after}
+
+-- ---- moves of the CPUs below a number
+
+module _ (count : ℕ) where
+  abbrev is_low : Move → Bool
+  is_low move = ltb move.cpu count
+
+  abbrev pub AreLow : List Move → Type 0
+  AreLow moves = list_all is_low moves ≡ true
+
+  low_both : (one two : List Move) → AreLow one → AreLow two → AreLow (one ++ two)
+  low_both one two p q = list_all-append is_low one two ∙ (λ i. p i && q i)
+
+  module _ (cpu : ℕ) (low : cpu < count) where
+    so : ltb cpu count ≡ true
+    so = lt-ltb cpu count low
+
+    low_open : (h : Held) → AreLow (open_moves cpu h)
+    low_open held.None = refl
+    low_open held.Empty = refl
+    low_open (held.Counted tag size) = λ i. so i && (so i && true)
+
+    low_close : (h : Held) → AreLow (close_moves cpu h)
+    low_close held.None = refl
+    low_close held.Empty = refl
+    low_close (held.Counted tag size) = λ i. so i && (so i && true)
+
+    low_split : (parts : ℕ) (h : Held) → AreLow (split_moves cpu parts h)
+    low_split parts held.None = refl
+    low_split parts held.Empty = refl
+    low_split parts (held.Counted tag size) = λ i. so i && true
+
+    low_trim : (bytes : ℕ) (h : Held) → AreLow (trim_moves cpu bytes h)
+    low_trim bytes held.None = refl
+    low_trim bytes held.Empty = refl
+    low_trim bytes (held.Counted tag size) = λ i. so i && true
+
+  -- ---- a node
+
+  abbrev MaybeLow : Option Given → Type 0
+  MaybeLow None = ⊤
+  MaybeLow (Some given) = AreLow given.moves
+
+  block_low : (tag : Option Tag) (order : ℕ) (node : NodeState) → node.node.cpu < count → MaybeLow (given_block tag order node)
+  block_low tag order node low = by (start_in order node)
+    where
+      by : (start : Option ℕ) → MaybeLow (option_map (block_from tag order node) start)
+      by None = tt
+      by (Some start) = low_open node.node.cpu low _
+
+  object_low : (tag : Option Tag) (size : ℕ) (node : NodeState) → node.node.cpu < count → MaybeLow (given_object tag size node)
+  object_low tag size node low = by (class_of size)
+    where
+      by_start : (class : ℕ) (start : Option ℕ) → MaybeLow (option_map (object_from_new tag class node) start)
+      by_start class None = tt
+      by_start class (Some start) =
+          let same = cpu_of_vector true (lowest_vector node) (with_pages true start (slab_order class) node) in
+          low_both (open_moves node.node.cpu (slab_held class)) _ (low_open node.node.cpu low (slab_held class)) (low_open (with_new_slab class start node).node.cpu (subst (λ n. n < count) (sym same) low) _)
+
+      by_slab : (class frame : ℕ) (slab : Option Slab) → MaybeLow (option_map (object_from tag class frame node) slab)
+      by_slab class frame None = tt
+      by_slab class frame (Some slab) = low_open node.node.cpu low _
+
+      by_frame : (class : ℕ) (frame : Option ℕ) → MaybeLow (slab_or_new tag class node frame)
+      by_frame class None = by_start class (start_in (slab_order class) node)
+      by_frame class (Some frame) = by_slab class frame (slab_at frame node)
+
+      by : (class : Option ℕ) → MaybeLow (object_or_block tag size node class)
+      by None = block_low tag (classes.order_of size) node low
+      by (Some class) = by_frame class (open_frame class node)
+
+  place_low : (frame place : ℕ) (node : NodeState) → node.node.cpu < count → (o : Option Slab) → AreLow (place_home frame place node o).moves
+  place_low frame place node low None = refl
+  place_low frame place node low (Some slab) = by (is_used (with_place false place slab))
+    where
+      by : (b : Bool) → AreLow (cond {A = Taken} b (record { node = with_slab frame (Some (with_place false place slab)) node; moves = [] }) (record { node = without_slab frame (with_place false place slab) node; moves = close_moves node.node.cpu (slab_held slab.class) })).moves
+      by true = refl
+      by false = low_close node.node.cpu low (slab_held slab.class)
+
+  home_moves_low : (given : Storage) (node : NodeState) → node.node.cpu < count → AreLow (come_home given node).moves
+  home_moves_low (Pages block) node low = refl
+  home_moves_low (Object home frame place vector holds) node low = place_low frame place node low (slab_at frame node)
+  home_moves_low (Uncounted home frame place) node low = place_low frame place node low (slab_at frame node)
+
+  -- ---- an op
+
+  one_given_low : (given : Storage) (w : WorkerState) → AreLow w.tally.moves → AreLow (one_given given w).tally.moves
+  one_given_low (Pages block) w a = a
+  one_given_low (Object home frame place vector holds) w a = a
+  one_given_low (Uncounted home frame place) w a = a
+
+  allocated_low : (key order : ℕ) (given : Option Given) (w : WorkerState) → MaybeLow given → AreLow w.tally.moves → AreLow (allocated key order given w).tally.moves
+  allocated_low key order None w is a = a
+  allocated_low key order (Some given) w is a =
+      one_given_low given.storage (with_moves given.moves (with_node given.node (with_live (put key (Stored given.storage) w.live) w))) (low_both w.tally.moves given.moves a is)
+
+  back_low : (content : Content) (w : WorkerState) → cpu_of w < count → AreLow w.tally.moves → AreLow (given_back content w).tally.moves
+  back_low (Nothing order) w low a = a
+  back_low (Stored given) w low a = by (is_home given w)
+    where
+      by : (b : Bool) → AreLow (cond {A = WorkerState} b (with_taken (come_home given w.seat.node) w) (sent_home given w)).tally.moves
+      by true = low_both w.tally.moves (come_home given w.seat.node).moves a (home_moves_low given w.seat.node low)
+      by false = a
+
+  step_low : (entries : List Entry) (what : TraceOp) (w : WorkerState) → cpu_of w < count → AreLow w.tally.moves → AreLow (done entries what w).tally.moves
+  step_low entries (op.Page key order) w low a = allocated_low key order (given_block (current_tag w) order w.seat.node) w (block_low (current_tag w) order w.seat.node low) a
+  step_low entries (op.Kmalloc key size) w low a = allocated_low key 0 (given_object (current_tag w) size w.seat.node) w (object_low (current_tag w) size w.seat.node low) a
+  step_low entries (op.Free key) w low a =
+      let moves = close_moves (cpu_of w) (held_of (content_at key w.live)) in
+      back_low (content_at key w.live) (with_moves moves (with_live (without key w.live) w)) low (low_both w.tally.moves moves a (low_close (cpu_of w) low (held_of (content_at key w.live))))
+  step_low entries (op.Split key order first) w low a = low_both w.tally.moves _ a (low_split (cpu_of w) low _ (held_of (content_at key w.live)))
+  step_low entries (op.Swap one two) w low a = a
+  step_low entries (op.Trim key pages) w low a = low_both w.tally.moves _ a (low_trim (cpu_of w) low (pages * 4096) (held_of (content_at key w.live)))
+  step_low entries (op.Hook section index) w low a = a
+  step_low entries op.Unhook w low a = a
+  step_low entries (op.Enter section) w low a = a
+  step_low entries (op.Leave section) w low a = a
+  step_low entries (op.Unload section) w low a = a
+
+  all_low : (cpu many : ℕ) (nodes : ℕ → NodeState) (els : (Storage → ℕ) → ℕ) (below : cpu < many) (are : (h : ℕ) → h < many → h ≢ cpu → (nodes h).node.cpu ≡ h) → cpu < count
+      → (entries : List Entry) (ops : List TraceOp) (w : WorkerState) → T (rises w.live) → AllFit entries ops w → AllSound cpu many nodes els w.seat.node (worker_sum els w) → AreLow w.tally.moves → AreLow (all_done entries ops w).tally.moves
+  all_low cpu many nodes els below are low entries [] w r f s a = a
+  all_low cpu many nodes els below are low entries (what ∷ ops) w r f s a =
+      all_low cpu many nodes els below are low entries ops (done entries what w) (worker_rises entries (what ∷ []) w r) f.1
+      (step_sound cpu many nodes els below are entries what w r f.0 s)
+      (step_low entries what w (subst (λ n. n < count) (sym s.cpu_is) low) a)
+
+  -- ---- the barrier
+
+  all_home_low : (many : ℕ) (rest : List Storage) (m : Machine) → many ≤ count → OnTheWay many m rest → AreLow m.tally.moves → AreLow (fold storage_home m rest).tally.moves
+  all_home_low many [] m few o a = a
+  all_home_low many (given ∷ rest) m few o a =
+      let home = home_of given in
+      let low = home_low many m given rest o in
+      let cpu = o.cpus home (omega (arith, o.long)) in
+      all_home_low many rest (storage_home m given) few (one_home many m given rest o)
+      (low_both m.tally.moves (come_home given (seat_at home m).node).moves a (home_moves_low given (seat_at home m).node (omega (arith, o.long))))
+
+  pub record LowMoves (m : Machine) : Type 0 where
+    pub sound : IsSound m
+    pub seats : length m.seats ≡ count
+    pub low : AreLow m.tally.moves
+
+  barrier_low : (ops : List OnOp) (m : Machine) → length m.seats ≤ count → IsSound m → AreLow m.tally.moves → AreLow (all_home (modules_done ops m)).tally.moves
+  barrier_low ops m few s a =
+      let marked = modules_done ops m in
+      let marked_sound = same_parts m marked (modules_seats ops m) (modules_live ops m) s in
+      let long : length marked.seats ≡ length m.seats = ap length (modules_seats ops m) in
+      all_home_low (length marked.seats) (on_its_way marked) (none_on_its_way marked) (omega arith) (sets_out marked marked_sound)
+      (subst AreLow (sym (ap (λ t. t.moves) (modules_tally Bytes 0 ops m))) a)
+
+-- ---- the items
+
+item_low : (trace : Trace) (top : Option ℕ) (what : Item) (walk next : Walk) (p : Played) → FitsItem what → IsFormedItem trace.cpus trace.sections what → walk_item what walk ≡ Ok next → Between trace walk p.machine → LowMoves trace.cpus p.machine → LowMoves trace.cpus (item_played trace top what p).machine
+unfolding walk_item
+item_low trace top (item.Round ops) walk next p are formed e b s =
+    let f = fits_of_round trace ops walk next p.machine are formed b e in
+    let same : f.after ≡ next = cc (f.walked, e) in
+    let left = turns ops (begun walk) next p.machine are (record { keys = b.fits.keys; modules = b.fits.modules }) e b.rise b.agree f same (λ (now : Machine). (length now.seats ≡ trace.cpus) × AreLow trace.cpus now.tally.moves)
+    (λ cpu now low up fit sound h. (
+      length-set now.seats cpu _ ∙ h.0,
+      all_low trace.cpus cpu (length now.seats) (λ k. (seat_at k now).node) (elsewhere now cpu) low (λ k small differ. sound.cpus k small) (omega (arith, h.0)) now.area.entries (ops_of cpu ops) (worker_at cpu now) up fit (to_worker now cpu low sound) h.1,
+    ))
+    s.sound (s.seats, s.low) in
+    record {
+      sound = item_sound trace top (item.Round ops) walk next p are formed e b s.sound;
+      seats = round_count ops p.machine ∙ s.seats;
+      low = barrier_low trace.cpus ops (cpus_done ops p.machine) (omega (arith, left.also.0)) left.sound left.also.1;
+    }
+item_low trace top (item.Load line section) walk next p are formed e b s = record { sound = item_sound trace top (item.Load line section) walk next p are formed e b s.sound; seats = s.seats; low = s.low }
+item_low trace top item.Print walk next p are formed e b s = s
+item_low trace top item.Areas walk next p are formed e b s = s
+
+pub low_after : (trace : Trace) (top : Option ℕ) → IsFormedTrace trace → rounds_of trace ≡ Ok tt → (front back : List Item) → trace.body ≡ front ++ back → LowMoves trace.cpus (played_so_far trace top front).played.machine
+low_after trace top formed passes front back stands =
+    after_items (LowMoves trace.cpus) trace top (item_low trace top) formed passes front back stands
+    (record { sound = first_sound trace; seats = length-map-range_with_len (fresh_seat trace.frames trace.vectors) 0 trace.cpus; low = refl })
+
+-- ---- sums over CPUs and over moves
+
+zeros : {X : Type 0} (xs : List X) → sum_by (λ x. 0) xs ≡ 0
+zeros [] = refl
+zeros (x ∷ xs) = sum_by-cons (λ y. 0) x xs ∙ ap (λ n. 0 + n) (zeros xs)
+
+one_row : (f : ℕ → Move → ℕ) (mv : Move) (moves : List Move) (cpus : List ℕ) → sum_by (λ c. sum_by (f c) (mv ∷ moves)) cpus ≡ sum_by (λ c. f c mv) cpus + sum_by (λ c. sum_by (f c) moves) cpus
+one_row f mv moves [] = refl
+one_row f mv moves (c ∷ cpus) =
+    let rest = one_row f mv moves cpus in
+    omega (arith, sum_by-cons (λ c. sum_by (f c) (mv ∷ moves)) c cpus, sum_by-cons (f c) mv moves, sum_by-cons (λ c. f c mv) c cpus, sum_by-cons (λ c. sum_by (f c) moves) c cpus)
+
+each_way : (f : ℕ → Move → ℕ) (cpus : List ℕ) (moves : List Move) → sum_by (λ c. sum_by (f c) moves) cpus ≡ sum_by (λ mv. sum_by (λ c. f c mv) cpus) moves
+each_way f cpus [] = zeros cpus
+each_way f cpus (mv ∷ moves) = one_row f mv moves cpus ∙ ap (λ n. sum_by (λ c. f c mv) cpus + n) (each_way f cpus moves) ∙ sym (sum_by-cons (λ mv. sum_by (λ c. f c mv) cpus) mv moves)
+
+-- of the CPUs one made a move
+one_cpu : (x a : ℕ) (b : Bool) (n from : ℕ) → sum_by (λ c. cond (eqb x c && b) a 0) (range_with_len from n) ≡ cond (leb from x && ltb x (from + n)) (cond b a 0) 0
+one_cpu x a b zero from = sym (nowhere (leb from x) (ltb x (from + 0)) refl refl)
+  where
+    nowhere : (p q : Bool) → leb from x ≡ p → ltb x (from + 0) ≡ q → cond (p && q) (cond b a 0) 0 ≡ 0
+    nowhere true true e g = let l = leb-true from x e in let h = ltb-true x (from + 0) g in absurd (omega arith)
+    nowhere true false e g = refl
+    nowhere false q e g = refl
+one_cpu x a b (suc n) from =
+    sum_by-cons (λ c. cond (eqb x c && b) a 0) from (range_with_len (from + 1) n)
+    ∙ ap (λ k. cond (eqb x from && b) a 0 + k) (one_cpu x a b n (from + 1))
+    ∙ by (eqb x from) (leb (from + 1) x) (ltb x (from + 1 + n)) (leb from x) (ltb x (from + suc n)) refl refl refl refl refl
+  where
+    by : (p q r s t : Bool) → eqb x from ≡ p → leb (from + 1) x ≡ q → ltb x (from + 1 + n) ≡ r → leb from x ≡ s → ltb x (from + suc n) ≡ t → cond (p && b) a 0 + cond (q && r) (cond b a 0) 0 ≡ cond (s && t) (cond b a 0) 0
+    by true true r s t e g h i j = let y = eqb-true x from e in let l = leb-true (from + 1) x g in absurd (omega arith)
+    by true false r true true e g h i j = add-zero (cond b a 0)
+    by true false r true false e g h i j = let y = eqb-true x from e in let l = ltb-false x (from + suc n) j in absurd (omega arith)
+    by true false r false t e g h i j = let y = eqb-true x from e in let l = leb-false from x i in absurd (omega arith)
+    by false true true true true e g h i j = omega arith
+    by false true true true false e g h i j = let y = ltb-true x (from + 1 + n) h in let l = ltb-false x (from + suc n) j in absurd (omega arith)
+    by false true r false t e g h i j = let y = leb-true (from + 1) x g in let l = leb-false from x i in absurd (omega arith)
+    by false true false true true e g h i j = let y = ltb-false x (from + 1 + n) h in let l = ltb-true x (from + suc n) j in absurd (omega arith)
+    by false true false true false e g h i j = refl
+    by false false r true t e g h i j = let y = leb-false (from + 1) x g in let l = leb-true from x i in let z = eqb-false x from e in absurd (z (omega arith))
+    by false false r false t e g h i j = refl
+
+module _ (kind : Kind) (t : ℕ) where
+  abbrev up_on : ℕ → Move → ℕ
+  up_on cpu mv = if is_on cpu kind t mv then mv.up else 0
+
+  abbrev down_on : ℕ → Move → ℕ
+  down_on cpu mv = if is_on cpu kind t mv then mv.down else 0
+
+  column : (count : ℕ) (mv : Move) (a : ℕ) → mv.cpu < count → sum_by (λ c. if is_on c kind t mv then a else 0) (range_with_len 0 count) ≡ (if is_under kind t mv then a else 0)
+  column count mv a low =
+      ap (λ (f : ℕ → ℕ). sum_by f (range_with_len 0 count)) (λ i c. cond (regroup (eqb mv.cpu c) (same_kind kind mv.kind) (eqb mv.tag t) i) a 0)
+      ∙ one_cpu mv.cpu a (is_under kind t mv) count 0
+      ∙ ap (λ b. cond b (if is_under kind t mv then a else 0) 0) (le-low mv.cpu count low)
+    where
+      regroup : (p q r : Bool) → (p && q && r) ≡ (p && (q && r))
+      regroup true q r = refl
+      regroup false q r = refl
+
+      le-low : (x n : ℕ) → x < n → (leb 0 x && ltb x (0 + n)) ≡ true
+      le-low x n l = ap (λ b. b && ltb x (0 + n)) (le-leb 0 x (omega arith)) ∙ lt-ltb x (0 + n) (omega arith)
+
+  ups_of_all : (count : ℕ) (moves : List Move) → AreLow count moves → sum_by (λ mv. sum_by (λ c. up_on c mv) (range_with_len 0 count)) moves ≡ all_up kind t moves
+  ups_of_all count [] low = refl
+  ups_of_all count (mv ∷ moves) low =
+      let b = both_hold (ltb mv.cpu count) (list_all (λ (x : Move). ltb x.cpu count) moves) low in
+      sum_by-cons (λ mv. sum_by (λ c. up_on c mv) (range_with_len 0 count)) mv moves
+      ∙ (λ i. column count mv mv.up (ltb-true mv.cpu count b.0) i + ups_of_all count moves b.1 i)
+      ∙ sym (sum_by-cons (λ (m : Move). if is_under kind t m then m.up else 0) mv moves)
+
+  downs_of_all : (count : ℕ) (moves : List Move) → AreLow count moves → sum_by (λ mv. sum_by (λ c. down_on c mv) (range_with_len 0 count)) moves ≡ all_down kind t moves
+  downs_of_all count [] low = refl
+  downs_of_all count (mv ∷ moves) low =
+      let b = both_hold (ltb mv.cpu count) (list_all (λ (x : Move). ltb x.cpu count) moves) low in
+      sum_by-cons (λ mv. sum_by (λ c. down_on c mv) (range_with_len 0 count)) mv moves
+      ∙ (λ i. column count mv mv.down (ltb-true mv.cpu count b.0) i + downs_of_all count moves b.1 i)
+      ∙ sym (sum_by-cons (λ (m : Move). if is_under kind t m then m.down else 0) mv moves)
+
+-- ---- wrapped
+
+one_word : (up down words ups downs : ℕ) → (words + downs) % 2 ^ 64 ≡ ups % 2 ^ 64 → ((up + (2 ^ 64 - down % 2 ^ 64)) % 2 ^ 64 + words + (down + downs)) % 2 ^ 64 ≡ (up + ups) % 2 ^ 64
+one_word up down words ups downs e = omega arith
+
+words_wrap : (up down : ℕ → ℕ) (cpus : List ℕ) → (sum_by (λ c. wrap_minus (up c) (down c)) cpus + sum_by down cpus) % 2 ^ 64 ≡ sum_by up cpus % 2 ^ 64
+words_wrap up down [] = refl
+words_wrap up down (c ∷ cpus) =
+    let later = words_wrap up down cpus in
+    ap (λ n. n % 2 ^ 64) (λ i. sum_by-cons (λ c. wrap_minus (up c) (down c)) c cpus i + sum_by-cons down c cpus i)
+    ∙ one_word (up c) (down c) (sum_by (λ c. wrap_minus (up c) (down c)) cpus) (sum_by up cpus) (sum_by down cpus) later
+    ∙ ap (λ n. n % 2 ^ 64) (sym (sum_by-cons up c cpus))
+
+taken_off : (words downs live : ℕ) → (words + downs) % 2 ^ 64 ≡ (downs + live) % 2 ^ 64 → words % 2 ^ 64 ≡ live % 2 ^ 64
+taken_off words downs live e = omega arith
+
+pub words_are_live : (m : Machine) → IsAccounted m → AreLow (length m.seats) m.tally.moves → (kind : Kind) (t live : ℕ) → all_up kind t m.tally.moves ≡ all_down kind t m.tally.moves + live → wrap (words_total m kind t) ≡ wrap live
+words_are_live m accounts low kind t live e =
+    let cpus = range_with_len 0 (length m.seats) in
+    let moves = m.tally.moves in
+    let up : sum_by (λ c. sum_by (up_on kind t c) moves) cpus ≡ all_up kind t moves = each_way (up_on kind t) cpus moves ∙ ups_of_all kind t (length m.seats) moves low in
+    let down : sum_by (λ c. sum_by (down_on kind t c) moves) cpus ≡ all_down kind t moves = each_way (down_on kind t) cpus moves ∙ downs_of_all kind t (length m.seats) moves low in
+    taken_off (words_total m kind t) (all_down kind t moves) live
+    (ap (λ n. (words_total m kind t + n) % 2 ^ 64) (sym down) ∙ words_wrap (λ c. sum_by (up_on kind t c) moves) (λ c. sum_by (down_on kind t c) moves) cpus ∙ ap (λ n. n % 2 ^ 64) (up ∙ e))
+
+pub rows_tell : (trace : Trace) (top : Option ℕ) → IsFormedTrace trace → rounds_of trace ≡ Ok tt → (front back : List Item) → trace.body ≡ front ++ back → (section start index : ℕ) (kept : Bool)
+    → TellsLive (played_so_far trace top front).played.machine (start + index) (tag_row (played_so_far trace top front).played.machine section start kept index)
+rows_tell trace top formed passes front back stands section start index kept =
+    let m = (played_so_far trace top front).played.machine in
+    let l = low_after trace top formed passes front back stands in
+    let low : AreLow (length m.seats) m.tally.moves = subst (λ n. AreLow n m.tally.moves) (sym l.seats) l.low in
+    let accounts : IsAccounted m = λ kind tag. accounted kind tag m (totals_after kind tag trace top formed passes front back stands) in
+    record {
+      bytes = refl;
+      calls = refl;
+      byte_words = sym (words_are_live m accounts low Bytes (start + index) (live_total Bytes (start + index) (live_cells m)) (accounts Bytes (start + index)));
+      call_words = sym (words_are_live m accounts low Calls (start + index) (live_total Calls (start + index) (live_cells m)) (accounts Calls (start + index)));
+    }
