@@ -1,5 +1,5 @@
--- How a zone keeps its frames: a bit of a word for each, set where the frame is free. No contract that others see
--- speaks of it.
+-- Bits of words, and how a zone keeps its frames: a bit for each, set where the frame is free. No clause of a zone
+-- speaks of them.
 use Rattle.std.specs.Prelude.{ℕ, ◌≡◌, ◌+◌, ◌-◌, ◌*◌, ◌/◌, ◌%◌, ◌^◌, ◌<◌, ◌≤◌, ◌==◌, ◌⊎◌, Bool, not, List, length, get_or, map, count_by}
 use Rattle.std.specs.Int.{bit_at}
 use Rattle.std.specs.List.{range_with_len}

@@ -15,7 +15,7 @@ const ALIGNED: [u64; 6] = [
 ];
 
 /// The least multiple of 2^order from which on 2^order bits are set.
-pub(crate) fn least_run(words: &[u64], order: u32) -> Option<u32>
+pub fn least_run(words: &[u64], order: u32) -> Option<u32>
     requires small { order ≤ 10 }
     requires few { length words.now ≤ 17 }
     ensures { MatchOption result (HasNoRun words.now order) (IsLeastRun words.now order) }
@@ -28,7 +28,7 @@ pub(crate) fn least_run(words: &[u64], order: u32) -> Option<u32>
 }
 
 /// Turns 2^order bits from the start on.
-pub(crate) fn flip(words: &mut [u64], start: u32, order: u32)
+pub fn flip(words: &mut [u64], start: u32, order: u32)
     requires small { order ≤ 10 }
     requires aligned { start % 2 ^ order ≡ 0 }
     requires within { start + 2 ^ order ≤ 64 * length words.old }
@@ -44,7 +44,7 @@ pub(crate) fn flip(words: &mut [u64], start: u32, order: u32)
 }
 
 /// Whether a bit is set.
-pub(crate) fn is_set(words: &[u64], bit: u32) -> bool
+pub fn is_set(words: &[u64], bit: u32) -> bool
     requires { bit < 64 * length words.now }
     ensures { IsTrue result ↔ (bit_of words.now bit ≡ 1) }
 {

@@ -5,6 +5,7 @@ mod bits;
 mod laws;
 mod zone;
 
+pub use bits::{flip, is_set, least_run};
 pub use laws::worked_zone;
 pub use zone::Zone;
 

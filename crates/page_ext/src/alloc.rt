@@ -1,4 +1,4 @@
-ghost use Rattle.std.specs.Prelude.{ℕ, ◌≡◌, ◌≢◌, ◌+◌, ◌^◌, ◌≤◌, ◌↔◌, IfOk, IsErr, OnErr, Some, None, length, false};
+ghost use Rattle.std.specs.Prelude.{ℕ, ◌≡◌, ◌≢◌, ◌+◌, ◌^◌, ◌<◌, ◌≤◌, ◌↔◌, IfOk, IsErr, OnErr, Some, None, length, false};
 ghost use Rattle.tag_model.specs.RefMoves.{close_moves, open_moves, reference_to};
 ghost use Rattle.tag_model.specs.declared.state.Held.TheVariants as held;
 ghost use Rattle.tag_ref.specs.Refs.{moved_by};
@@ -11,6 +11,7 @@ use crate::block::{Block, Returned};
 use crate::node::Node;
 use current_tag::Task;
 use tag_model::index::page_cell;
+use tag_model::limits::SIZE_END;
 use tag_ref::{close_ref, mark_empty, open_ref};
 use tag_rule::{CellSeat, CpuSeat, part, unite};
 
@@ -62,9 +63,22 @@ fn count_block(cpu: &mut CpuSeat, cell: &mut CellSeat, task: &Task, order: u32)
     ensures cell { cell.new ≡ record cell.old { held = reference_to task.now.current (page_bytes order) } }
     ensures cpu { cpu.new ≡ moved_by (open_moves cpu.old.part.number (reference_to task.now.current (page_bytes order))) cpu.old }
 {
+    count_under(cpu, cell, task, 4096 << order);
+}
+
+/// Counts so many bytes on a cell under the task's current tag. Where there is none, the cell is marked.
+pub fn count_under(cpu: &mut CpuSeat, cell: &mut CellSeat, task: &Task, bytes: u64)
+    requires table { cell.old.board ≡ cpu.old.board }
+    requires hand { cpu.old.part.hand ≡ None }
+    requires none { cell.old.held ≡ held.None }
+    requires bytes { (0 < bytes) × (bytes < SIZE_END) }
+    requires allowed { MayCount task.now.current cpu.old }
+    ensures cell { cell.new ≡ record cell.old { held = reference_to task.now.current bytes } }
+    ensures cpu { cpu.new ≡ moved_by (open_moves cpu.old.part.number (reference_to task.now.current bytes)) cpu.old }
+{
     match task.current() {
         None => mark_empty(cpu, cell),
-        Some(tag) => open_ref(cpu, cell, tag, 4096 << order),
+        Some(tag) => open_ref(cpu, cell, tag, bytes),
     }
 }
 

@@ -6,7 +6,7 @@ mod block;
 mod laws;
 mod node;
 
-pub use alloc::{NoFrames, alloc_pages, free_pages, take_back};
+pub use alloc::{NoFrames, alloc_pages, count_under, free_pages, take_back};
 pub use block::{Block, Returned};
 pub use laws::{blocks_follow_the_list_machine, worked_blocks};
 pub use node::Node;

@@ -3,3 +3,10 @@ pub mod Slabs
 pub mod Storage
 pub mod Giving
 pub mod Homing
+pub mod Bits
+pub mod Shown
+pub mod Calls
+pub mod Lending
+pub mod Tables
+pub mod Returned
+pub mod NodeLending

@@ -1,0 +1,10 @@
+pub mod Marks
+pub mod ClassLemmas
+pub mod FrameSets
+pub mod Places
+pub mod Cells
+pub mod SlabLemmas
+pub mod TableLemmas
+pub mod NodeLemmas
+pub mod GivenLemmas
+pub mod HomeLemmas
