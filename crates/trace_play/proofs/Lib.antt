@@ -21,3 +21,4 @@ pub mod HooksFit
 pub mod ModulesHold
 pub mod ReadyHolds
 pub mod WordsTotal
+pub mod CellsFound

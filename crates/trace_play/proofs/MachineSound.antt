@@ -178,7 +178,7 @@ sets_out m s =
     }
 
 -- its home is a CPU's
-has_home : (count : ℕ) (given : Storage) → is_away count given ≡ 0 → home_of given < count
+pub has_home : (count : ℕ) (given : Storage) → is_away count given ≡ 0 → home_of given < count
 has_home count given e = by (ltb (home_of given) count) refl e
   where
     by : (b : Bool) → ltb (home_of given) count ≡ b → one_if (not b) ≡ 0 → home_of given < count

@@ -44,7 +44,7 @@ block_within node all sound home frame order holds own given =
     let below : last < length node.node.frames = taken_within node.node.frames last (must_be (all (has_frame c last) + slabs_sum (slab_has_frame last) 0 node.slabs) (get_or node.node.frames last false) f (omega arith)) in
     omega arith
 
-object_place : (node : NodeState) (all : (Storage → ℕ) → ℕ) → NodeSound node all → (frame place : ℕ) (vector : Option ℕ) → 1 ≤ all (is_object_at node.node.cpu frame place vector) → IsPlace frame place vector node
+pub object_place : (node : NodeState) (all : (Storage → ℕ) → ℕ) → NodeSound node all → (frame place : ℕ) (vector : Option ℕ) → 1 ≤ all (is_object_at node.node.cpu frame place vector) → IsPlace frame place vector node
 object_place node all sound frame place vector some =
     let o = sound.objects frame place vector in
     let f = found (slab_at frame node) (omega arith) in

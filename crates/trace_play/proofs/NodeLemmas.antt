@@ -100,7 +100,7 @@ sum_at weight slabs i x below = let s = sum_set weight 0 slabs i x below in let 
     subst (λ n. slabs_sum weight 0 (set slabs i x) + weight n (get_or slabs i None) ≡ slabs_sum weight 0 slabs + weight n x) z s
 
 -- a slab is one of them
-sum_has : (weight : ℕ → Option Slab → ℕ) (slabs : List (Option Slab)) (i : ℕ) → i < length slabs → weight i None ≡ 0 → weight i (get_or slabs i None) ≤ slabs_sum weight 0 slabs
+pub sum_has : (weight : ℕ → Option Slab → ℕ) (slabs : List (Option Slab)) (i : ℕ) → i < length slabs → weight i None ≡ 0 → weight i (get_or slabs i None) ≤ slabs_sum weight 0 slabs
 sum_has weight slabs i below none = let s = sum_at weight slabs i None below in omega (arith, none)
 
 -- who has a slab is in the list

@@ -1,16 +1,20 @@
 //! Laws of what a trace leaves. The functions do nothing: what they promise are laws of the definitions.
 
-ghost use Rattle.std.specs.Prelude.{ℕ, Bool, List, None, Ok, Option, true, ◌++◌, ◌+◌, ◌≡◌, ◌≤◌};
+ghost use Rattle.std.specs.Prelude.{ℕ, Bool, List, None, Ok, Option, Some, slice_get, true, ◌++◌, ◌+◌, ◌≡◌, ◌≤◌};
 ghost use Rattle.round_check.specs.Rounds.{IsRound};
 ghost use Rattle.round_check.specs.Walk.{rounds_of, walk_ops};
 ghost use Rattle.round_check.specs.declared.walk.Walk.{Walk};
 ghost use Rattle.tag_model.specs.Index.{Slot};
+ghost use Rattle.tag_model.specs.declared.shape.Shape.{Shape};
+ghost use Rattle.tag_model.specs.declared.state.Held.{Held};
 ghost use Rattle.trace.specs.Formed.{IsFormedTrace};
 ghost use Rattle.trace.specs.declared.traces.Item.{Item};
 ghost use Rattle.trace.specs.declared.traces.OnOp.{OnOp};
 ghost use Rattle.trace.specs.declared.traces.Trace.{Trace};
 ghost use Rattle.trace_play.specs.Alone.{rises};
 ghost use Rattle.trace_play.specs.Fits.{RoundFits};
+ghost use Rattle.trace_play.specs.Left.{HasRoom, IsInItsCell};
+ghost use Rattle.trace_play.specs.Machine.{live_cells};
 ghost use Rattle.trace_play.specs.Play.{played_so_far};
 ghost use Rattle.trace_play.specs.Printed.{tag_row};
 ghost use Rattle.trace_play.specs.Ready.{IsReady};
@@ -61,4 +65,11 @@ pub fn rows_tell_what_is_live()
     ensures { (trace : Trace) (top : Option ℕ) → IsFormedTrace trace → rounds_of trace ≡ Ok tt → (front back : List Item) → trace.body ≡ front ++ back
         → (section start index : ℕ) (kept : Bool)
         → TellsLive (played_so_far trace top front).played.machine (start + index) (tag_row (played_so_far trace top front).played.machine section start kept index) }
+{}
+
+/// In a table that is large enough each live reference is what its cell holds.
+pub fn live_references_are_in_their_cells()
+    ensures { (k : Shape) (trace : Trace) (top : Option ℕ) → HasRoom k trace → IsFormedTrace trace → rounds_of trace ≡ Ok tt → (front back : List Item) → trace.body ≡ front ++ back
+        → (i : ℕ) (entry : Slot × Held) → slice_get (live_cells (played_so_far trace top front).played.machine) i ≡ Some entry
+        → IsInItsCell k (played_so_far trace top front).played.machine entry }
 {}
