@@ -75,6 +75,11 @@ abbrev pub storage_of : Stored → Storage
 storage_of (Pages block) = storage.Pages (block_of block)
 storage_of (InSlab place) = in_slab place.home place.frame place.place place.cell
 
+-- a large object is a block
+abbrev pub is_block : Stored → Bool
+is_block (Pages block) = true
+is_block (InSlab place) = false
+
 -- its cell, if it has one
 abbrev pub cell_of : Stored → Option CellShown
 cell_of (Pages block) = Some block.cell

@@ -1,10 +1,10 @@
 //! Objects, and storage on its way home.
 
 ghost use Rattle.std.specs.Borrow.{sem};
-ghost use Rattle.std.specs.Prelude.{◌≡◌, option_map};
+ghost use Rattle.std.specs.Prelude.{◌≡◌, IfErr, IfOk, is_ok, option_map};
 ghost use Rattle.slab_cache.specs.Calls.{counts};
 ghost use Rattle.slab_cache.specs.Lending.{LendsCell, LendsStoredCell};
-ghost use Rattle.slab_cache.specs.Shown.{cell_of, storage_of};
+ghost use Rattle.slab_cache.specs.Shown.{cell_of, is_block, storage_of};
 ghost use Rattle.slab_cache.specs.Storage.{held_of, home_of};
 
 use crate::place::Place;
@@ -97,6 +97,20 @@ impl Obj {
         ensures value { option_map (λ cell. cell.now) result ≡ cell_of self.old.stored }
     {
         self.stored.cell_mut()
+    }
+
+    /// A large object as the block that it is. One in a slab is handed back.
+    pub fn into_block(self) -> Result<Block, Obj>
+        ensures block { IfOk result (λ block. self.stored ≡ Stored.Pages block) }
+        ensures same { IfErr result (λ obj. obj ≡ self) }
+        ensures large { is_ok result ≡ is_block self.stored }
+    {
+        match self.stored {
+            Stored::Pages(block) => Ok(block),
+            Stored::InSlab(place) => Err(Obj {
+                stored: Stored::InSlab(place),
+            }),
+        }
     }
 }
 
