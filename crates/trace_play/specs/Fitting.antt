@@ -2,8 +2,8 @@
 use Rattle.std.specs.Prelude.{ℕ, ◌≡◌, ◌≢◌, ◌+◌, ◌^◌, ◌<◌, ◌≤◌, ⊤, Bool, true, IsTrue, Option, Some, None, List, [], ◌∷◌, length, slice_get}
 use Rattle.tag_model.specs.declared.state.Tag.{Tag}
 use Rattle.module_area.specs.declared.entry.Entry.{Entry}
-use Rattle.slab_cache.specs.Slabs.{Slab, NodeState, slab_at}
-use Rattle.slab_cache.specs.Storage.{Storage, Pages, Object, Uncounted, home_of}
+pub use Rattle.slab_cache.specs.Calls.{IsPlace, IsOf}
+use Rattle.slab_cache.specs.Storage.{home_of}
 use Rattle.trace.specs.declared.traces.TraceOp.{TraceOp}
 use Rattle.trace.specs.declared.traces.TraceOp.TheVariants as op
 use Rattle.trace_play.specs.Live.{Content, Nothing, Stored, content_at}
@@ -47,19 +47,6 @@ HookFits may_count entries (op.Leave section) w = ⊤
 HookFits may_count entries (op.Unload section) w = ⊤
 
 -- ---- storage of the CPU's own node
-
--- a taken place of a slab of the node, which has this vector, or none
-pub record IsPlace (frame place : ℕ) (vector : Option ℕ) (node : NodeState) : Type 0 where
-  pub slab : Slab
-  pub here : slab_at frame node ≡ Some slab
-  pub taken : slice_get slab.places place ≡ Some true
-  pub has : slab.vector ≡ vector
-
--- storage of the node
-abbrev pub IsOf : NodeState → Storage → Type 0
-IsOf node (Pages block) = block.frame + 2 ^ block.order ≤ length node.node.frames
-IsOf node (Object home frame place vector holds) = IsPlace frame place (Some vector) node
-IsOf node (Uncounted home frame place) = IsPlace frame place None node
 
 abbrev pub IsThere : Content → WorkerState → Type 0
 IsThere (Nothing order) w = ⊤
