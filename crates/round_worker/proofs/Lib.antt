@@ -1,0 +1,10 @@
+mod KeyLemmas
+mod HookLemmas
+mod KeptLemmas
+mod DoneLemmas
+mod Keeps
+mod Given
+mod Splits
+mod Rounds
+mod TagLemmas
+mod Needs

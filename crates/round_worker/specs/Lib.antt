@@ -1,0 +1,5 @@
+pub mod Kept
+pub mod Parting
+pub mod HooksOut
+pub mod Shown
+pub mod Working

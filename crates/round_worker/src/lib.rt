@@ -1,0 +1,17 @@
+//! The worker of a CPU: it takes the CPU's ops of a round, on the CPU's own words and storage.
+#![tactic(auto)]
+
+mod changing;
+mod freeing;
+mod giving;
+mod homing;
+mod hooks;
+mod keys;
+mod listed;
+mod round;
+mod splitting;
+mod worker;
+
+pub use keys::Kept;
+pub use round::{Gate, OpenGate};
+pub use worker::{Going, Worker};
