@@ -54,9 +54,19 @@ cpus_there k s f i d low =
     let is = cpu_at k s f i d low in
     (ap (λ (c : CpuShown). c.board) is ∙ sym (list_there k s f), ap (λ (c : CpuShown). c.part.hand) is)
 
+pages_long : (k : Shape) (s : Seats) (f : AreFresh k s) → length s.pages.items ≡ k.cpus
+pages_long k s f =
+    ap length f.pages ∙ length-map-range_with_len (λ n. record { board = f.board; cells = range_with_len (page_index f.board.shape n 0) f.board.shape.frames }) 0 f.board.shape.cpus
+    ∙ ap (λ (shape : Shape). shape.cpus) f.shape
+
 pub part-run-requires-clause-there : goal.part-run-requires-clause-there
 part-run-requires-clause-there c n h =
     pool_has c.args.shape c.in_ok-cpus.field-0 c.in_ok-cpus.ensures c.index_mut.result.now c.page_cell.result c.args.count n c.requires.checked.some_cpu c.index_mut.ensures.value c.page_cell.ensures.index c.requires.few h
+
+pub index_mut-requires : goal.index_mut-requires
+index_mut-requires c = let long = pages_long c.args.shape c.in_ok-cpus.field-0 c.in_ok-cpus.ensures in
+    let low : 0 < c.in_ok-cpus.field-0.pages.len = omega (arith, long, c.in_ok-cpus.field-0.pages.ok.0, c.requires.checked.some_cpu) in
+    low
 
 pub index-requires : goal.index-requires
 index-requires c = let long = cpus_long c.args.shape c.in_ok-cpus.field-0 c.in_ok-cpus.ensures in
