@@ -5,7 +5,9 @@ pub mod print;
 pub mod rows;
 pub mod top;
 
-pub use print::{print_rows, write_bytes, write_calls, write_header, write_line};
+pub use print::{
+    BYTES_PLACES, CALLS_PLACES, print_rows, write_bytes, write_calls, write_header, write_line,
+};
 pub use rows::Row;
 pub use top::{print_top, ranked_rows};
 

@@ -4,5 +4,8 @@
 
 pub mod list;
 pub mod rows;
+
+pub use list::{CoreList, Next};
+
 #[cfg(test)]
 mod tests;

@@ -8,13 +8,11 @@ ghost use Rattle.module_area.specs.declared.book.TheConstants.{BOOK_LIMIT, TAG_L
 ghost use Rattle.module_area.specs.declared.entry.State.TheVariants as state;
 ghost use Rattle.core_list.specs.ListState.{IsList, dead_list, entered_list, found_at, fresh_list, left_ids, left_list, load_refusal, loaded, next_of, read_to, records_of, released, scanned, swept_list};
 
-use module_area::book::{BOOK_LIMIT, TAG_LIMIT, USER_LIMIT};
-use module_area::{AreaError, Book};
-use module_list::list::RecordList;
+use module_area::{AreaError, BOOK_LIMIT, Book, TAG_LIMIT, USER_LIMIT};
+use module_list::RecordList;
 use std::alloc::{AllocError, Global};
 use std::marker::Model;
-use tag_model::shape::Shape;
-use tag_model::state::{Reader, Stop};
+use tag_model::{Reader, Shape, Stop};
 
 /// No id is above this.
 pub const LAST_ID: u32 = 4_294_967_295;

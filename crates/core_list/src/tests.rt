@@ -9,8 +9,7 @@ use crate::list::{CoreList, Next};
 use module_area::{AreaError, Entry, State};
 use std::process::Abort;
 use std::test::Fail;
-use tag_model::shape::Shape;
-use tag_model::state::{Kind, Reader, Stop};
+use tag_model::{Kind, Reader, Shape, Stop};
 
 const FIRST: u32 = 128;
 

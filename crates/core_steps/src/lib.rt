@@ -8,5 +8,9 @@ pub mod machine;
 pub mod op;
 pub mod run;
 pub mod step_table;
+
+pub use machine::Core;
+pub use op::{Actor, Cause, Event, Op, QueueError, StepRefused};
+
 #[cfg(test)]
 mod tests;

@@ -16,8 +16,7 @@ use module_area::Book;
 use module_ops::{ManagerOp, ModuleTable};
 use std::alloc::{AllocError, Global};
 use std::marker::Model;
-use tag_model::shape::Shape;
-use tag_model::state::Kind;
+use tag_model::{Kind, Shape};
 use tag_section::Sections;
 
 /// The word machine.

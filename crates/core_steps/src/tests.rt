@@ -12,9 +12,7 @@ use codetag::{CodeTag, TagError};
 use std::alloc::Global;
 use std::process::Abort;
 use std::test::Fail;
-use tag_model::limits::SIZE_END;
-use tag_model::shape::Shape;
-use tag_model::state::Kind;
+use tag_model::{Kind, SIZE_END, Shape};
 use tag_section::Sections;
 
 const KERNEL_TAGS: u32 = 128;

@@ -4,7 +4,7 @@ ghost use Rattle.cpu_ops.specs.Machine.{run_at, tag_in, is_outside};
 
 use std::alloc::{AllocError, Global};
 use std::marker::Model;
-use tag_model::state::{Run, Tag};
+use tag_model::{Run, Tag};
 
 /// One CPU's runs: for each section, that on the section's module.
 #[derive(Drop)]

@@ -13,7 +13,7 @@ use crate::waiting::Waiting;
 use crate::words::CpuWords;
 use std::alloc::{AllocError, Global};
 use std::marker::Model;
-use tag_model::state::{Hand, Held};
+use tag_model::{Hand, Held};
 
 /// Hands and ops by CPU, and places by key.
 #[derive(Drop)]

@@ -8,7 +8,7 @@ use crate::machine::Machine;
 use crate::op::CpuOp;
 use crate::refused::StepRefused;
 use crate::scene::{self, Scene};
-use tag_model::state::Held;
+use tag_model::Held;
 
 fn is_empty_place(held: Held) -> bool
     ensures { result ≡ holds_nothing held }

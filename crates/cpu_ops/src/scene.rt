@@ -5,7 +5,7 @@ ghost use Rattle.core_list.specs.ListState.{IsList, loaded_entry};
 ghost use Rattle.cpu_ops.specs.Machine.{Scene};
 
 use crate::inside::Inside;
-use core_list::list::CoreList;
+use core_list::CoreList;
 use module_area::Entry;
 use std::marker::Model;
 

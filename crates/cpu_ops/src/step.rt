@@ -8,7 +8,7 @@ ghost use Rattle.cpu_ops.specs.Machine.{step_of, open_step, close_step, split_st
 use crate::inside::Inside;
 use crate::op::CpuOp;
 use crate::words::CpuWords;
-use tag_model::state::{Hand, Held, Kind, Tag};
+use tag_model::{Hand, Held, Kind, Tag};
 
 /// One step on a word or on a place.
 #[derive(Clone, Copy, Debug, PartialEq, Eq)]

@@ -4,7 +4,7 @@ ghost use Rattle.tag_model.specs.WordState.{word_place};
 
 use std::alloc::{AllocError, Global};
 use std::marker::Model;
-use tag_model::state::Kind;
+use tag_model::Kind;
 
 /// One CPU's words: for tag t its bytes at 2 t and its calls at 2 t + 1.
 #[derive(Drop)]

@@ -3,7 +3,7 @@ ghost use Rattle.std.specs.Fn.{FnOnceReturnsAtMut, FnOnceTakesAtMut};
 ghost use Rattle.current_tag.specs.Hooks.{TaskShown, hooked, kept_of, most_hooks, restored, unhooked};
 
 use std::marker::Model;
-use tag_model::state::Tag;
+use tag_model::Tag;
 
 /// A task: the tag under which it allocates, or none, and how many hooks are out.
 #[derive(Debug, Drop)]

@@ -3,7 +3,7 @@ ghost use Rattle.current_tag.specs.Hooks.{hooked, kept_of};
 
 use crate::Task;
 use std::test::Fail;
-use tag_model::state::Tag;
+use tag_model::Tag;
 
 // Threads may move and share the value.
 fn crosses<T: Send + Sync>(_value: &T) {}

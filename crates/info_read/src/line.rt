@@ -10,7 +10,7 @@ use crate::cuts::unpadded;
 use crate::numbers::{signed_of, unsigned_of};
 use crate::place::{PlaceParts, place_of};
 use crate::row::RowText;
-use allocinfo::print::{BYTES_PLACES, CALLS_PLACES};
+use allocinfo::{BYTES_PLACES, CALLS_PLACES};
 use codetag::{is_file, is_function};
 use tag_section::is_module_name;
 

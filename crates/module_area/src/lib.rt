@@ -5,7 +5,7 @@
 pub mod book;
 pub mod entry;
 
-pub use book::{AreaError, Book};
+pub use book::{AreaError, BOOK_LIMIT, Book, TAG_LIMIT, USER_LIMIT};
 pub use entry::{Entry, State};
 
 #[cfg(test)]

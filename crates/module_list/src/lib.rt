@@ -4,5 +4,8 @@
 
 pub mod list;
 pub mod row_laws;
+
+pub use list::RecordList;
+
 #[cfg(test)]
 mod tests;

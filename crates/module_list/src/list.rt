@@ -11,8 +11,7 @@ ghost use Rattle.module_list.specs.Stages.{passes_tag, sweep_of};
 
 use std::alloc::{AllocError, Global};
 use std::marker::Model;
-use tag_model::shape::Shape;
-use tag_model::state::{Kind, Reader, Record, Stop};
+use tag_model::{Kind, Reader, Record, Shape, Stop};
 
 /// The most records, ids on a sweep's list, and stops.
 pub const RECORD_LIMIT: usize = 64;

@@ -3,7 +3,7 @@
 use crate::list::RecordList;
 use std::process::Abort;
 use std::test::Fail;
-use tag_model::state::{Kind, Reader, Record};
+use tag_model::{Kind, Reader, Record};
 
 // Threads may move and share the value.
 fn crosses<T: Send + Sync>(_value: &T) {}

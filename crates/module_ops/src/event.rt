@@ -1,6 +1,6 @@
 //! What a step tells.
 
-use tag_model::state::Kind;
+use tag_model::Kind;
 
 /// Which op a sweep is of.
 #[derive(Clone, Copy, Debug, PartialEq, Eq)]

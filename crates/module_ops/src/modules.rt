@@ -13,13 +13,12 @@ ghost use Rattle.module_ops.specs.Modules.{inside_at, scene_at, modules_after, m
 use crate::event::{Cause, Event};
 use crate::managing::Managing;
 use crate::op::ManagerOp;
-use core_list::list::{CoreList, Next};
+use core_list::{CoreList, Next};
 use cpu_ops::{CpuWords, Inside, MAX_QUEUED, QueueError, Scene, StepRefused, WordStep};
 use module_area::{AreaError, Entry};
 use std::alloc::{AllocError, Global};
 use std::marker::Model;
-use tag_model::shape::Shape;
-use tag_model::state::{Kind, Reader, Run, Stop};
+use tag_model::{Kind, Reader, Run, Shape, Stop};
 use tag_section::Sections;
 
 /// The modules, by CPU and section, with their list and their manager.

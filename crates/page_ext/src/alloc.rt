@@ -10,8 +10,7 @@ ghost use Rattle.page_ext.specs.Paging.{GivesBlock, MayCount};
 use crate::block::{Block, Returned};
 use crate::node::Node;
 use current_tag::Task;
-use tag_model::index::page_cell;
-use tag_model::limits::SIZE_END;
+use tag_model::{SIZE_END, page_cell};
 use tag_ref::{close_ref, mark_empty, open_ref};
 use tag_rule::{CellSeat, CpuSeat, part, unite};
 

@@ -4,8 +4,7 @@ use crate::{Block, NoFrames, Node, alloc_pages, free_pages, take_back};
 use current_tag::Task;
 use std::alloc::{AllocError, Global};
 use std::test::Fail;
-use tag_model::shape::Shape;
-use tag_model::state::{Held, Kind, Tag};
+use tag_model::{Held, Kind, Shape, Tag};
 use tag_rule::{CpuSeat, Seats, make, read_own};
 
 // Threads may be handed the value.

@@ -6,7 +6,7 @@ use self::desk::{
     both, counted, cpus_of, exchanged, filled_there, finished_there, new_hall, new_pair, round,
     totals,
 };
-use tag_model::shape::Shape;
+use tag_model::Shape;
 
 fn shape(cpus: u32, frames: u32) -> Shape
     ensures { result ≡ record { cpus = cpus; tags = 4; kernel_tags = 4; frames = frames; vectors = 0 } }

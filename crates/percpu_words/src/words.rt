@@ -7,7 +7,7 @@ ghost use Rattle.tag_model.specs.Wrap.{wrap};
 ghost use Rattle.percpu_words.specs.CpuWords.{word_in};
 ghost use Rattle.tag_rule.specs.Shown.{CpuShown};
 
-use tag_model::state::Kind;
+use tag_model::Kind;
 use tag_rule::{CpuSeat, read_own};
 
 /// The CPU's words of a tag: bytes and calls.

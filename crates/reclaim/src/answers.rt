@@ -1,6 +1,6 @@
 //! What the calls answer.
 
-use tag_model::state::Kind;
+use tag_model::Kind;
 use thiserror::Error;
 
 /// What became of an unloaded module.

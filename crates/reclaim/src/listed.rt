@@ -27,7 +27,7 @@ use module_area::AreaError;
 use std::alloc::AllocError;
 use std::marker::PhantomData;
 use std::sync::{Mutex, MutexGuard, Wait};
-use tag_model::state::Tag;
+use tag_model::Tag;
 use tag_rule::{CellSeat, CpuSeat, LoadPass, Name};
 
 /// A `Locked` of the table that `N` names.

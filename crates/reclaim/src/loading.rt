@@ -7,8 +7,7 @@ ghost use Rattle.reclaim.specs.Loading.{IsPrepared, LoadEnds, early_refusal, lat
 
 use crate::Locked;
 use crate::cleaning::clean_locked;
-use module_area::AreaError;
-use module_area::book::BOOK_LIMIT;
+use module_area::{AreaError, BOOK_LIMIT};
 use tag_rule::{LoadPass, load_list};
 
 /// Loads the module of a section under the pass's next id, at the least start that is free. Where there are as many

@@ -9,7 +9,7 @@ ghost use Rattle.reclaim.specs.Sweeps.{Cleaned, with_entries};
 ghost use Rattle.module_list.specs.Listing.{reader_of};
 
 use crate::Locked;
-use tag_model::state::Reader;
+use tag_model::Reader;
 use tag_rule::{Change, CpuSeat, ListSeat, change_list, scan_own};
 
 /// As `clean_locked`, with all CPUs lent: it releases a dead module exactly where for each of its tags the bytes and the

@@ -4,7 +4,7 @@ ghost use Rattle.std.specs.Prelude.{◌≡◌, IsSome, IsSomeAnd, IsTrue};
 ghost use Rattle.module_list.specs.Listing.{may_release, reader_of};
 ghost use Rattle.reclaim.specs.Steps.{ScansOne};
 
-use tag_model::state::Kind;
+use tag_model::Kind;
 use tag_rule::{ListSeat, scan_byte, scan_call};
 
 /// The sweep reads its next word.

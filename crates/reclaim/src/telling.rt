@@ -13,7 +13,7 @@ ghost use Rattle.tag_rule.specs.Shown.{CpuShown};
 
 use crate::Locked;
 use std::alloc::AllocError;
-use tag_model::state::{Held, Tag};
+use tag_model::{Held, Tag};
 use tag_rule::{CellSeat, CpuSeat, LoadPass, meet, meet_all};
 
 impl Locked {

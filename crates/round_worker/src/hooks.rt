@@ -10,7 +10,7 @@ use current_tag::{Saved, Task};
 use slab_cache::{Obj, ObjError, SlabNode, kmalloc};
 use std::alloc::{AllocError, Global};
 use std::marker::Model;
-use tag_model::state::Tag;
+use tag_model::Tag;
 use tag_rule::CpuSeat;
 
 /// A hook that is out: its tag, and what was saved when it was put out.

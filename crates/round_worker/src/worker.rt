@@ -18,7 +18,7 @@ use page_ext::Returned;
 use slab_cache::{Back, SlabNode};
 use std::alloc::{AllocError, Global};
 use std::marker::Model;
-use tag_model::state::Tag;
+use tag_model::Tag;
 use tag_rule::CpuSeat;
 
 /// Storage that was freed here and is of another CPU's node, on its way there.

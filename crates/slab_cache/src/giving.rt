@@ -24,7 +24,7 @@ use crate::place::Place;
 use crate::slab::Slab;
 use current_tag::Task;
 use page_ext::{Block, NoFrames, Node, alloc_pages, count_under};
-use tag_model::state::Tag;
+use tag_model::Tag;
 use tag_rule::CpuSeat;
 use thiserror::Error;
 

@@ -10,7 +10,7 @@ ghost use Rattle.slab_cache.specs.Storage.{held_of, home_of};
 use crate::place::Place;
 use page_ext::{Block, Returned};
 use std::marker::Model;
-use tag_model::state::Held;
+use tag_model::Held;
 use tag_rule::CellSeat;
 
 /// An object: a place in a slab, or a block where it is too large for a slab. An object that is dropped is a leaked

@@ -16,7 +16,7 @@ use crate::place::{Place, PlaceCell};
 use page_ext::Block;
 use slab_ext::Vector;
 use std::marker::Model;
-use tag_model::index::obj_cell;
+use tag_model::obj_cell;
 use tag_rule::{part, unite};
 
 /// A slab: a block that is cut into places of a class, and a vector of cells for them, if there was one.

@@ -3,7 +3,7 @@ ghost use Rattle.std.specs.Prelude.{◌≡◌, ◌<◌, ◌≤◌, IfOk, length}
 use crate::VectorPool;
 use std::alloc::{AllocError, Global};
 use std::test::Fail;
-use tag_model::shape::Shape;
+use tag_model::Shape;
 use tag_rule::{Seats, make};
 
 // Threads may be handed the value.

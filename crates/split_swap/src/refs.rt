@@ -7,8 +7,7 @@ ghost use Rattle.tag_model.specs.declared.state.Held.TheVariants as held;
 ghost use Rattle.tag_ref.specs.Refs.{holding, moved_by};
 ghost use Rattle.split_swap.specs.Sharing.{CanHalve};
 
-use tag_model::limits::SIZE_END;
-use tag_model::state::{Held, Tag};
+use tag_model::{Held, SIZE_END, Tag};
 use tag_rule::{CellSeat, CpuSeat, add_call, write_cell};
 
 /// Shares the reference of the first cell out to both. A counted one adds a call.

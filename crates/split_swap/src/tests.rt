@@ -5,8 +5,7 @@ use current_tag::Task;
 use page_ext::{Node, alloc_pages};
 use std::alloc::{AllocError, Global};
 use std::test::Fail;
-use tag_model::shape::Shape;
-use tag_model::state::{Held, Kind, Tag};
+use tag_model::{Held, Kind, Shape, Tag};
 use tag_rule::{CpuSeat, Seats, make, read_own};
 
 /// A CPU with its node of sixteen frames.

@@ -3,7 +3,7 @@
 ghost use Rattle.std.specs.Prelude.{◌≡◌};
 ghost use Rattle.step_play.specs.Acts.{actor_of, op_of, code_of};
 
-use core_steps::op::{Actor, Op, StepRefused};
+use core_steps::{Actor, Op, StepRefused};
 use std::alloc::AllocError;
 use trace::{Code, StepActor, StepOp};
 

@@ -12,8 +12,7 @@ ghost use Rattle.step_play.specs.Playing.{Shows, Follows, SameSizes, StepsOn, Is
 
 use crate::acts::{ActError, actor_of, code_of, op_of};
 use crate::print::{write_allocinfo, write_event, write_words};
-use core_steps::machine::Core;
-use core_steps::op::{Actor, Op, QueueError};
+use core_steps::{Actor, Core, Op, QueueError};
 use std::alloc::Global;
 use trace::{Code, StepAct, StepLine, TextError};
 

@@ -13,11 +13,10 @@ ghost use Rattle.step_play.specs.Playing.{Shows, own_setting};
 
 use allocinfo::{Row, print_rows};
 use codetag::write_number;
-use core_steps::machine::Core;
-use core_steps::op::{Cause, Event};
+use core_steps::{Cause, Core, Event};
 use module_area::{Entry, State};
 use std::alloc::{AllocError, Global};
-use tag_model::state::Kind;
+use tag_model::Kind;
 use tag_section::Sections;
 
 /// Appends the rows of a section's tags, which stand from a tag number on.

@@ -6,10 +6,9 @@ ghost use Rattle.step_play.specs.Schedule.{shape_of, schedule_of, setting_of};
 ghost use Rattle.step_play.specs.Playing.{Ends};
 
 use crate::play::play;
-use core_steps::machine::Core;
+use core_steps::Core;
 use std::alloc::{AllocError, Global};
-use tag_model::limits::KERNEL_TAGS;
-use tag_model::shape::Shape;
+use tag_model::{KERNEL_TAGS, Shape};
 use trace::{Code, Steps, TextError};
 
 /// How a schedule ended: with all that it wrote, or at the first line that is refused.

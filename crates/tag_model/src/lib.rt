@@ -16,6 +16,18 @@ pub mod shape;
 pub mod state;
 pub mod sum_laws;
 pub mod sweep_laws;
+pub mod worked_laws;
+
+pub use index::{byte_word, call_word, obj_cell, page_cell};
+pub use limits::{
+    AREA_TAGS, KERNEL_TAGS, MAX_CPUS, MAX_FRAMES, MAX_HAND_CALLS, MAX_PLACES, MAX_TAGS,
+    MAX_VECTORS, SIZE_END, VECTOR_CELLS,
+};
+pub use ref_word::{Ref, RefWord};
+pub use shape::{Shape, ShapeError};
+pub use state::{
+    CpuPart, Hand, Held, Kind, ListPart, Note, Part, Reader, Record, Run, Stop, Sweep, Tag,
+};
+
 #[cfg(test)]
 mod tests;
-pub mod worked_laws;

@@ -7,8 +7,7 @@ ghost use Rattle.tag_model.specs.StepRules.{may_begin};
 ghost use Rattle.tag_model.specs.declared.state.Held.TheVariants as held;
 ghost use Rattle.tag_ref.specs.Refs.{MeetsMachine, closed_as, holding, moved_by};
 
-use tag_model::limits::SIZE_END;
-use tag_model::state::{Held, Tag};
+use tag_model::{Held, SIZE_END, Tag};
 use tag_rule::{CellSeat, CpuSeat, add_bytes, add_call, sub_bytes, sub_call, write_cell};
 
 /// What a free found in its cell.

@@ -6,8 +6,7 @@ ghost use Rattle.tag_model.specs.declared.state.Hand.{Hand};
 ghost use Rattle.tag_rule.specs.Steps.{HoldsOpening, MayAddCall, with_call};
 
 use crate::cpu::{CpuSeat, WordStep};
-use tag_model::limits::{MAX_HAND_CALLS, SIZE_END};
-use tag_model::state::{Hand, Kind, Tag};
+use tag_model::{Hand, Kind, MAX_HAND_CALLS, SIZE_END, Tag};
 
 /// add-call: an allocation begins under the tag, or a split counts a call more for the tag that the CPU holds.
 pub fn add_call(cpu: &mut CpuSeat, tag: Tag)

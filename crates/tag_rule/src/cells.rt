@@ -7,8 +7,7 @@ use crate::words::{Seat, Words};
 use std::alloc::Global;
 use std::marker::Model;
 use std::sync::Arc;
-use tag_model::shape::Shape;
-use tag_model::state::Held;
+use tag_model::{Held, Shape};
 
 /// The right to a run of cells. The first holds a `Held`, and the others nothing.
 #[derive(Drop)]

@@ -7,7 +7,7 @@ ghost use Rattle.tag_rule.specs.Kept.{MayKeep, kept_after};
 use crate::modules::ListSeat;
 use crate::seats::turn;
 use crate::words::Words;
-use module_list::list::RecordList;
+use module_list::RecordList;
 use std::marker::Brand;
 
 /// A change of the module list.

@@ -14,9 +14,7 @@ use crate::words::{Seat, Words};
 use std::alloc::Global;
 use std::marker::{Brand, Model};
 use std::sync::Arc;
-use tag_model::index::{byte_word, call_word};
-use tag_model::shape::Shape;
-use tag_model::state::{Hand, Kind};
+use tag_model::{Hand, Kind, Shape, byte_word, call_word};
 
 /// The right to a CPU's words. Only who has it changes them, or takes references and runs into the CPU's hands.
 #[derive(Drop)]

@@ -11,7 +11,7 @@ use crate::modules::{ListSeat, LoadPass};
 use crate::seats::exchange;
 use crate::words::Words;
 use std::marker::Brand;
-use tag_model::state::Record;
+use tag_model::Record;
 
 /// list-change load: a module is loaded over the range, under the pass's next id. The id is above all others of the list.
 pub fn load_list(

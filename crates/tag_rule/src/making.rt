@@ -17,12 +17,10 @@ use crate::modules::{ListSeat, LoadPass};
 use crate::seats::take_front;
 use crate::words::{Seat, Words};
 use atomic_table::Table;
-use module_list::list::RecordList;
+use module_list::RecordList;
 use std::alloc::{AllocError, Global};
 use std::sync::Arc;
-use tag_model::index::call_word;
-use tag_model::limits::VECTOR_CELLS;
-use tag_model::shape::Shape;
+use tag_model::{Shape, VECTOR_CELLS, call_word};
 
 /// The most modules that a CPU is inside.
 const ROOM: usize = 64;

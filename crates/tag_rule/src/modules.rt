@@ -5,12 +5,11 @@ ghost use Rattle.module_list.specs.Listing.{reader_of, releasable};
 ghost use Rattle.tag_rule.specs.Seated.{IsListShown};
 
 use crate::words::{Seat, Words};
-use module_list::list::RecordList;
+use module_list::RecordList;
 use std::alloc::Global;
 use std::marker::Model;
 use std::sync::Arc;
-use tag_model::shape::Shape;
-use tag_model::state::{Reader, Stop};
+use tag_model::{Reader, Shape, Stop};
 
 /// The right to the module list. What it keeps of the list counts no users.
 #[derive(Drop)]

@@ -10,7 +10,7 @@ use crate::cpu::CpuSeat;
 use crate::seats::{divide_seat, split_off, turn, unite_seat};
 use crate::words::Words;
 use std::marker::Brand;
-use tag_model::state::Held;
+use tag_model::Held;
 
 /// A run of cells.
 #[derive(Clone, Copy)]

@@ -7,7 +7,7 @@ use crate::cpu::{CpuSeat, word_at};
 use crate::seats::look;
 use crate::words::Words;
 use std::marker::Brand;
-use tag_model::state::Kind;
+use tag_model::Kind;
 
 /// Reads one of the CPU's own words, as no one else changes it.
 pub fn read_own(cpu: &mut CpuSeat, tag: u32, kind: Kind) -> u64

@@ -3,7 +3,7 @@
 use crate::view::View;
 use atomic_table::{Join, Play, Split, TableRule};
 use std::marker::{Brand, PhantomData};
-use tag_model::shape::Shape;
+use tag_model::Shape;
 
 /// The words are what all parts say, and these are a safe word state.
 pub struct Law;

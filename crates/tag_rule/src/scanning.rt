@@ -15,7 +15,7 @@ use crate::modules::ListSeat;
 use crate::seats::{look_together, peek};
 use crate::words::Words;
 use std::marker::Brand;
-use tag_model::state::Reader;
+use tag_model::Reader;
 
 /// scan-byte: the sweep reads its next word, a byte word of some CPU.
 pub fn scan_byte(list: &mut ListSeat) -> u64

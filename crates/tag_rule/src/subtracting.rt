@@ -6,7 +6,7 @@ ghost use Rattle.tag_model.specs.declared.state.Hand.{Hand};
 ghost use Rattle.tag_rule.specs.Steps.{HoldsBytes, HoldsCall};
 
 use crate::cpu::{CpuSeat, WordStep};
-use tag_model::state::{Hand, Kind};
+use tag_model::{Hand, Kind};
 
 /// sub-bytes: a free or a trim takes bytes from those in hand.
 pub fn sub_bytes(cpu: &mut CpuSeat, bytes: u64)

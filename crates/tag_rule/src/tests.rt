@@ -9,9 +9,7 @@ use crate::{
     write_cell,
 };
 use std::test::Fail;
-use tag_model::index::page_cell;
-use tag_model::shape::Shape;
-use tag_model::state::{Held, Kind, Reader, Tag};
+use tag_model::{Held, Kind, Reader, Shape, Tag, page_cell};
 
 const TAG: Tag = Tag {
     number: 1,

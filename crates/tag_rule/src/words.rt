@@ -8,7 +8,7 @@ use crate::rule::Law;
 use crate::view::View;
 use atomic_table::Table;
 use std::alloc::Global;
-use tag_model::shape::Shape;
+use tag_model::Shape;
 
 /// A seat at the table.
 pub(crate) type Seat = atomic_table::Seat<(), View>;

@@ -15,8 +15,7 @@ use crate::cpu::CpuSeat;
 use crate::seats::{split_off, store, unite_seat};
 use crate::words::{Seat, Words};
 use std::marker::Brand;
-use tag_model::ref_word::RefWord;
-use tag_model::state::{Hand, Held, Tag};
+use tag_model::{Hand, Held, RefWord, Tag};
 
 /// What is written, and what is in hand then.
 #[derive(Clone, Copy)]

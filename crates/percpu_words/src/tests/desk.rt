@@ -9,9 +9,7 @@ ghost use Rattle.tag_rule.specs.Shown.{CellShown, CpuShown};
 use crate::{own_word, quiet_total};
 use std::alloc::{AllocError, Global};
 use std::thread::{Threads, join};
-use tag_model::index::page_cell;
-use tag_model::shape::Shape;
-use tag_model::state::{Held, Tag};
+use tag_model::{Held, Shape, Tag, page_cell};
 use tag_ref::{close_ref, open_ref};
 use tag_rule::{CellSeat, CpuSeat, ListSeat, Seats, divide, make, part};
 
