@@ -1,5 +1,5 @@
 -- A cleaning: what its sweep leaves, and what its releases leave.
-use Rattle.std.proofs.Common.{◌≡◌, ℕ, ◌+◌, ◌*◌, ◌<◌, ◌≤◌, ◌==◌, ◌&&◌, ◌||◌, List, [], ◌∷◌, length, filter, map, All, None, refl, sym, ap, ◌∙◌, subst, arith, Bool, true, false, not, cond, eq-eqb, ne_eqb, if◌then◌else◌}
+use Rattle.std.proofs.Common.{◌≡◌, ℕ, ◌+◌, ◌*◌, ◌<◌, ◌≤◌, ◌==◌, ◌&&◌, ◌||◌, List, [], ◌∷◌, length, filter, map, All, None, IsSomeAnd, refl, sym, ap, ◌∙◌, subst, arith, Bool, true, false, not, cond, eq-eqb, ne_eqb, if◌then◌else◌}
 use Rattle.std.specs.List.{list_any}
 use Rattle.std.proofs.lemmas.Bool.{and_from, or_from, or_left, or_right, cond-true, false≢true}
 use Rattle.std.proofs.lemmas.List.Elements.{All-cons, All-nil, All-head, All-tail, All-weaker}
@@ -9,26 +9,28 @@ use Rattle.tag_model.specs.declared.state.ListPart.{ListPart}
 use Rattle.tag_model.specs.declared.state.Part.TheVariants.{Modules}
 use Rattle.tag_model.specs.declared.state.Kind.TheVariants.{Bytes}
 use Rattle.tag_model.specs.declared.state.Record.{Record}
+use Rattle.tag_model.specs.declared.state.Stop.{Stop}
 use Rattle.tag_model.specs.declared.state.Sweep.{Sweep}
 use Rattle.tag_model.specs.declared.state.Sweep.TheVariants as sweep
 use Rattle.tag_model.specs.declared.state.Run.{Run}
 use Rattle.tag_model.specs.Laws.{is_listed, is_reading, rises_from, ids_of, of_reader, same_kind}
-use Rattle.tag_model.specs.WordState.{one_if}
+use Rattle.tag_model.specs.WordState.{in_range, one_if}
 use Rattle.tag_model.proofs.Ids.{rises_cons}
+use Rattle.tag_model.proofs.Lists.{in_range_means}
 use Rattle.tag_model.specs.StepRules.{Sweeps, dead_ids}
 use Rattle.tag_model.specs.Sweeping.{are_above_zero, has_stop, ids_left, is_accounted, is_off, tags_of}
 use Rattle.tag_model.proofs.Accounted.{begins_off, sweeps_account}
 use Rattle.tag_model.proofs.SweepSteps.{sweeps_at_most, sweeps_read}
 use Rattle.module_area.specs.declared.entry.Entry.{Entry}
-use Rattle.module_area.specs.Entries.{is_dead}
+use Rattle.module_area.specs.Entries.{Covers, entry_of, is_dead}
 use Rattle.module_area.specs.Area.{Area, IsBook}
 use Rattle.module_list.specs.Listing.{releasable, swept}
 use Rattle.core_list.specs.ListState.{record_of}
-use Rattle.core_list.proofs.Split.{book_rises}
+use Rattle.core_list.proofs.Split.{book_rises, the_entry}
 use Rattle.reclaim.specs.State.{LockedShown, IsLocked, part_of, is_still}
 use Rattle.reclaim.specs.Steps.{Reads, with_listing}
-use Rattle.reclaim.specs.Sweeps.{Cleaned, Releases, dead_tags, is_kept}
-use Rattle.reclaim.proofs.Reading.{reads_above_zero, reads_account, reads_keep, reads_off, reads_some}
+use Rattle.reclaim.specs.Sweeps.{Cleaned, IsStopIn, Releases, dead_tags, is_kept}
+use Rattle.reclaim.proofs.Reading.{IsInRecord, reads_above_zero, reads_account, reads_keep, reads_off, reads_some, reads_within}
 use Rattle.tag_rule.specs.Shown.{ListShown}
 use Rattle.tag_section.specs.Section.{Section}
 use Rattle.reclaim.specs.Tied.{AreTied}
@@ -149,6 +151,20 @@ not_still s l is reading = go s (subst (λ x. of_reader (λ r. one_if (same_kind
     go (sweep.Done left) h = absurd (omega (arith, h))
     go (sweep.Reading left r) h = refl
 
+-- ---- a stop is of an entry, and tells a tag of its range
+
+pub stop_in : (area : Area) (s : Stop) → IsBook area → IsInRecord (map record_of area.entries) s → IsStopIn area.entries s
+stop_in area s book there =
+    let t = the_entry area s.id (λ (r : Record). in_range r.start r.length s.tag) book there in
+    subst (λ o. IsSomeAnd o (λ (e : Entry). Covers e s.tag)) (sym t.is) (in_range_means t.entry.start t.entry.length s.tag t.passes)
+
+stops_in : (area : Area) (k : Shape) (from p : ListPart) → IsBook area → from.records ≡ map record_of area.entries → from.stops ≡ [] → Reads k from p → All (IsStopIn area.entries) p.stops
+stops_in area k from p book records none reads =
+    let begun : All (IsInRecord from.records) from.stops = subst (λ st. All (IsInRecord from.records) st) (sym none) (All-nil (IsInRecord from.records)) in
+    let same : p.records ≡ map record_of area.entries = (reads_keep k from p reads).records ∙ records in
+    All-weaker (IsInRecord (map record_of area.entries)) (IsStopIn area.entries) (λ s h. stop_in area s book h) p.stops
+    (subst (λ rs. All (IsInRecord rs) p.stops) same (reads_within k from p reads begun))
+
 -- ---- all together
 
 -- the list after the reads, beside what it was
@@ -187,6 +203,7 @@ cleaned old mid new count p ok reads still is_mid releases none_first =
       area = gone.area ∙ (λ i. let a : Area = record (area i) { entries = entries i } in a);
       fewer = omega (arith, gone.fewer, ap (λ (a : Area). length a.entries) area);
       sums = subst (λ st. are_above_zero st ≡ true) (sym (gone.stops ∙ mid_stops)) (reads_above_zero k from p reads refl);
+      within = subst (λ st. All (IsStopIn old.area.entries) st) (sym (gone.stops ∙ mid_stops)) (stops_in old.area k from p ok.book refl refl reads);
       most = omega (arith, gone.reads, mid_reads, keep.bound, sweeps_at_most k (part_of old) from (book_rises old.area ok.book) row, ap (λ n. 2 * k.cpus * n) (dead_tags_are old.area ok.book));
       some = λ dead. omega (arith, gone.reads, mid_reads, reads_some k from p reads (not_still from.sweep from refl (sweeps_read (part_of old) from row (dead_record old.area.entries dead))) still);
     }

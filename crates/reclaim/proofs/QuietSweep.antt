@@ -31,6 +31,7 @@ use Rattle.reclaim.specs.Quiet.{OwnReads, ScansOwn, no_own, then_own, total}
 use Rattle.reclaim.specs.Steps.{Reads, no_read, then_read}
 use Rattle.reclaim.proofs.QuietParts.{base_of, counts_here, counts_no_bytes, counts_other, fits_up, made_up, words_of}
 use Rattle.reclaim.proofs.QuietSums.{AreFrom, from, from_all, from_next, from_none, number}
+use Rattle.reclaim.proofs.Reading.{tag_within}
 
 -- ---- all CPUs
 
@@ -75,8 +76,9 @@ pub scans_own : (k : Shape) (cpus : List CpuShown) (old new : ListPart) (r : Rea
 scans_own k cpus old new r seat cpu rises fits is below seat_is row =
     let at = reading_at old.sweep r is in
     let scan = row at.left r at.is in
+    let fit = subst (λ s. sweep_fits k s old.records ≡ true) at.is fits in
     record {
-      one = record { left = at.left; reader = r; cpu = cpu; row = scan; listed = (reading_fits k at.left r old.records (subst (λ s. sweep_fits k s old.records ≡ true) at.is fits)).listed; falls = (scans_fall k at.left r cpu old new rises fits scan).0 };
+      one = record { left = at.left; reader = r; cpu = cpu; row = scan; listed = (reading_fits k at.left r old.records fit).listed; within = tag_within k at.left r old.records fit; falls = (scans_fall k at.left r cpu old new rises fits scan).0 };
       fits = fits;
       own = λ d. seat_is ∙ ap (λ (c : CpuShown). c.part) (get_or_default cpus r.cpu seat d below);
     }
@@ -137,10 +139,6 @@ pub record AreRecords (k : Shape) (records : List Record) : Type 0 where
   pub apart : Apart records
 
 module _ (k : Shape) (cpus : List CpuShown) (all : AreAll k cpus) (records : List Record) (recs : AreRecords k records) (left : List ℕ) (r : Reader) (fits : sweep_fits k (sweep.Reading left r) records ≡ true) (sum : ℕ) where
-  -- the record that is read has the tag in its range
-  tag_there : list_any (λ (x : Record). (x.id == r.id) && in_range x.start x.length r.tag) records ≡ true
-  tag_there = let f = reading_fits k left r records fits in subst (λ xs. list_any (λ (x : Record). (x.id == r.id) && in_range x.start x.length r.tag) xs ≡ true) (sym f.at.is) (any_at (λ (x : Record). (x.id == r.id) && in_range x.start x.length r.tag) f.at.front f.at.item f.at.back f.at.passes)
-
   tag_listed : covers_listed left r.tag records ≡ true
   tag_listed =
       let f = reading_fits k left r records fits in
@@ -178,7 +176,7 @@ module _ (k : Shape) (cpus : List CpuShown) (all : AreAll k cpus) (records : Lis
           let past = from_none (r.cpu + 1) 0 r.pass r.tag cpus (omega (arith, ltb-false (r.cpu + 1) k.cpus last, all.long)) all.are in
           let stop : Stop = record { id = r.id; tag = r.tag; kind = r.pass; sum = sum } in
           let not_zero : sum ≢ 0 = λ e. false≢true (sym (ap (λ b. not b) (eq-eqb sum 0 e)) ∙ some) in
-          rw (last, some) (All-cons (IsTrueStop cpus records) stop [] (λ e. not_zero (omega (arith, whole, past, e)), tag_there) (All-nil (IsTrueStop cpus records)))
+          rw (last, some) (All-cons (IsTrueStop cpus records) stop [] (λ e. not_zero (omega (arith, whole, past, e)), tag_within k left r records fits) (All-nil (IsTrueStop cpus records)))
 
   -- and the sums stay whole
   still_whole : wrap (sum + sum_by (from (r.cpu + 1) r.pass r.tag) cpus) ≡ total r.pass r.tag cpus → IsWhole cpus (sweep_after k records left r sum)

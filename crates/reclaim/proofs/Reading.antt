@@ -1,17 +1,22 @@
 -- What the reads of a sweep keep, and what they come to.
-use Rattle.std.proofs.Common.{◌≡◌, ℕ, ◌+◌, ◌<◌, ◌≤◌, List, length, slice_index, IsSome, refl, ap, ◌∙◌, subst, arith, true, false}
+use Rattle.std.proofs.Common.{◌≡◌, ℕ, ◌+◌, ◌<◌, ◌≤◌, ◌==◌, ◌&&◌, nat_lt, not, if◌then◌else◌, List, [], ◌∷◌, All, length, slice_index, IsSome, refl, sym, ap, ◌∙◌, subst, arith, Bool, true, false}
+use Rattle.std.specs.List.{list_any}
 use Rattle.std.proofs.lemmas.Bool.{both_ways, false≢true}
 use Rattle.std.proofs.lemmas.List.{length-append}
+use Rattle.std.proofs.lemmas.List.Elements.{All-append, All-cons, All-nil}
 use Rattle.tag_model.specs.declared.shape.Shape.{Shape}
 use Rattle.tag_model.specs.declared.state.ListPart.{ListPart}
 use Rattle.tag_model.specs.declared.state.Reader.{Reader}
+use Rattle.tag_model.specs.declared.state.Record.{Record}
+use Rattle.tag_model.specs.declared.state.Stop.{Stop}
 use Rattle.tag_model.specs.declared.state.Sweep.{Sweep}
 use Rattle.tag_model.specs.declared.state.Sweep.TheVariants as sweep
 use Rattle.tag_model.specs.StepRules.{stop_after}
-use Rattle.tag_model.specs.WordState.{word_place}
+use Rattle.tag_model.specs.WordState.{in_range, word_place}
 use Rattle.module_list.specs.Listing.{reader_of, sum_read}
 use Rattle.tag_model.specs.Sweeping.{are_above_zero, ids_left, is_accounted, is_off, reads_left}
 use Rattle.tag_model.specs.Laws.{ids_of, rises_from, sweep_fits}
+use Rattle.tag_model.proofs.Found.{any_at}
 use Rattle.tag_model.proofs.ScanRow.{reading_fits}
 use Rattle.tag_model.proofs.SweepSteps.{scans_fall}
 use Rattle.tag_model.proofs.Accounted.{scans_above_zero, scans_account, scans_off}
@@ -64,12 +69,40 @@ pub reads_above_zero : (k : Shape) (old new : ListPart) → Reads k old new → 
 reads_above_zero k old new no_read was = was
 reads_above_zero k old new (then_read {mid} before one) was = scans_above_zero k one.left one.reader one.cpu mid new one.row (reads_above_zero k old mid before was)
 
+-- the stop is of a record, and its tag is one of the record's range
+abbrev pub IsInRecord : List Record → Stop → Type 0
+IsInRecord records s = list_any (λ (r : Record). (r.id == s.id) && in_range r.start r.length s.tag) records ≡ true
+
+stop_within : (k : Shape) (records : List Record) (r : Reader) (sum : ℕ) → list_any (λ (x : Record). (x.id == r.id) && in_range x.start x.length r.tag) records ≡ true → All (IsInRecord records) (stop_after k r sum)
+stop_within k records r sum there = go (not (nat_lt (r.cpu + 1) k.cpus) && not (sum == 0))
+  where
+    stop : Stop
+    stop = record { id = r.id; tag = r.tag; kind = r.pass; sum = sum }
+
+    go : (b : Bool) → All (IsInRecord records) (if b then stop ∷ [] else [])
+    go true = All-cons (IsInRecord records) stop [] there (All-nil (IsInRecord records))
+    go false = All-nil (IsInRecord records)
+
+pub reads_within : (k : Shape) (old new : ListPart) → Reads k old new → All (IsInRecord old.records) old.stops → All (IsInRecord new.records) new.stops
+reads_within k old new no_read was = was
+reads_within k old new (then_read {mid} before one) was =
+    let sum = sum_read one.reader (slice_index one.cpu.words (word_place one.reader.pass one.reader.tag)) in
+    subst (λ (l : ListPart). All (IsInRecord l.records) l.stops) (sym one.row.after)
+    (All-append (IsInRecord mid.records) mid.stops (stop_after k one.reader sum) (reads_within k old mid before was) (stop_within k mid.records one.reader sum one.within))
+
 -- a sweep that reads, and then doesn't, has read a word
 pub reads_some : (k : Shape) (old new : ListPart) → Reads k old new → is_still old.sweep ≡ false → is_still new.sweep ≡ true → old.reads < new.reads
 reads_some k old new no_read reading still = absurd (both_ways (is_still old.sweep) reading still)
 reads_some k old new (then_read {mid} before one) reading still = omega (arith, (reads_keep k old mid before).more, one_more k mid new one)
 
 -- ---- a read, from what the call says of its word
+
+-- a record has the tag in its range that is read next
+pub tag_within : (k : Shape) (left : List ℕ) (r : Reader) (records : List Record) → sweep_fits k (sweep.Reading left r) records ≡ true → list_any (λ (x : Record). (x.id == r.id) && in_range x.start x.length r.tag) records ≡ true
+tag_within k left r records fits =
+    let test : Record → Bool = λ x. (x.id == r.id) && in_range x.start x.length r.tag in
+    let f = reading_fits k left r records fits in
+    subst (λ xs. list_any test xs ≡ true) (sym f.at.is) (any_at test f.at.front f.at.item f.at.back f.at.passes)
 
 pub scans_one : (k : Shape) (old new : ListPart) (word : ℕ) → rises_from 0 (ids_of old.records) ≡ true → sweep_fits k old.sweep old.records ≡ true → IsSome (reader_of old.sweep)
     → ((left : List ℕ) (r : Reader) → old.sweep ≡ sweep.Reading left r → ReadsWord k left r word old new) → ScansOne k old new
@@ -80,4 +113,5 @@ scans_one k old new word rises fits reading row = go old.sweep refl reading
     go (sweep.Done left) is some = absurd (false≢true some)
     go (sweep.Reading left r) is some =
         let w = row left r is in
-        record { left = left; reader = r; cpu = w.cpu; row = w.row; listed = (reading_fits k left r old.records (subst (λ s. sweep_fits k s old.records ≡ true) is fits)).listed; falls = (scans_fall k left r w.cpu old new rises fits w.row).0 }
+        let fit = subst (λ s. sweep_fits k s old.records ≡ true) is fits in
+        record { left = left; reader = r; cpu = w.cpu; row = w.row; listed = (reading_fits k left r old.records fit).listed; within = tag_within k left r old.records fit; falls = (scans_fall k left r w.cpu old new rises fits w.row).0 }

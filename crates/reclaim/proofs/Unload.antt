@@ -2,7 +2,8 @@
 use Rattle.std.proofs.Common.{◌≡◌, ◌≢◌, ℕ, ◌+◌, ◌*◌, ◌<◌, ◌≤◌, ◌==◌, ◌&&◌, ◌||◌, List, [], ◌∷◌, ◌++◌, length, map, All, Option, None, Some, IsSomeAnd, Result, Ok, Err, IfOk, IsOk, OnErr, MatchOption, slice_get, refl, sym, ap, ◌∙◌, subst, arith, Bool, true, false, not, cond, eqb-true, eq-eqb}
 use Rattle.std.specs.List.{list_any}
 use Rattle.std.proofs.lemmas.Bool.{and_from, cond-true, cond-false, cond_both, false≢true}
-use Rattle.std.proofs.lemmas.List.Elements.{All-weaker, All-map}
+use Rattle.std.proofs.lemmas.List.Elements.{All-head, All-map, All-nil, All-weaker}
+use Rattle.tag_model.specs.declared.shape.Shape.{Shape}
 use Rattle.tag_model.specs.declared.state.Kind.TheVariants.{Bytes}
 use Rattle.tag_model.specs.declared.state.ListPart.{ListPart}
 use Rattle.tag_model.specs.declared.state.Record.{Record}
@@ -14,30 +15,32 @@ use Rattle.tag_model.specs.StepRules.{MarksDead, begins_pass}
 use Rattle.tag_model.specs.Sweeping.{are_above_zero, has_stop, ids_left, is_accounted}
 use Rattle.tag_model.proofs.Accounted.{marks_account}
 use Rattle.tag_model.proofs.Found.{any_at}
+use Rattle.tag_model.proofs.Lists.{in_range_means}
 use Rattle.tag_model.proofs.SweepSteps.{marks_at_most}
+use Rattle.tag_model.specs.WordState.{in_range}
 use Rattle.tag_rule.specs.Shown.{Board, ListShown}
 use Rattle.tag_section.specs.Section.{Section}
 use Rattle.module_area.specs.declared.entry.Entry.{Entry}
 use Rattle.module_area.specs.declared.entry.State.TheVariants.{Loaded}
-use Rattle.module_area.specs.Entries.{entry_of, is_dead, kept, with_entry, without_entry}
-use Rattle.module_area.specs.Area.{IsBook}
-use Rattle.module_list.specs.Listing.{Listing, dead_record, listing_of, marked_dead, releasable}
+use Rattle.module_area.specs.Entries.{Covers, entry_of, is_dead, kept, with_entry, without_entry}
+use Rattle.module_area.specs.Area.{Area, IsBook}
+use Rattle.module_list.specs.Listing.{Listing, dead_record, listing_of, marked_dead, releasable, with_record}
 use Rattle.module_list.proofs.At.{record_at}
 use Rattle.core_list.specs.ListState.{ListState, record_of}
 use Rattle.core_list.proofs.Listed.{listed_dead, record_found}
-use Rattle.core_list.proofs.Split.{book_entry_at, book_rises, records_at, records_changed}
+use Rattle.core_list.proofs.Split.{book_entry_at, book_rises, records_at, records_changed, the_entry}
 use Rattle.reclaim.specs.declared.answers.Reclaim.{Reclaim}
 use Rattle.reclaim.specs.declared.answers.Reclaim.TheVariants.{Kept, Released}
 use Rattle.reclaim.specs.declared.answers.UnloadError.{UnloadError}
 use Rattle.reclaim.specs.Refusals.{refused, unload_refusal}
-use Rattle.std.proofs.lemmas.Option.{none-some}
+use Rattle.std.proofs.lemmas.Option.{none-some, same_Some}
 use Rattle.module_area.proofs.EntryLemmas.{find_some}
 use Rattle.tag_rule.specs.Listed.{is_unused}
 use Rattle.reclaim.specs.State.{LockedShown, IsLocked, IsNamed, part_of, is_still}
 use Rattle.reclaim.specs.Steps.{Reads, with_listing}
 use Rattle.reclaim.specs.Sweeps.{Unloaded, released, with_entries}
 use Rattle.reclaim.proofs.Clean.{part_after, with_part}
-use Rattle.reclaim.proofs.Reading.{reads_above_zero, reads_account, reads_keep, reads_some}
+use Rattle.reclaim.proofs.Reading.{IsInRecord, reads_above_zero, reads_account, reads_keep, reads_some, reads_within}
 
 -- ---- one module alone is swept: it is left on the list, or has the one stop
 
@@ -114,10 +117,42 @@ without_kept id (e ∷ es) = go (e.id == id) refl (without_kept id es)
     go true is later = cond-false (not (e.id == id)) (kept e ∷ without_entry id (with_entry id kept es)) (without_entry id (with_entry id kept es)) (ap not is) ∙ later
     go false is later = cond-true (not (e.id == id)) (e ∷ without_entry id (with_entry id kept es)) (without_entry id (with_entry id kept es)) (ap not is) ∙ ap (λ xs. e ∷ xs) later
 
+-- ---- its range stays
+
+abbrev has_tag : ℕ → ℕ → Record → Bool
+has_tag id tag r = (r.id == id) && in_range r.start r.length tag
+
+same_ranges : (id other tag : ℕ) (records : List Record) → list_any (has_tag other tag) (with_record id dead_record records) ≡ list_any (has_tag other tag) records
+same_ranges id other tag [] = refl
+same_ranges id other tag (r ∷ rs) = (λ i. same (r.id == id) i || same_ranges id other tag rs i)
+  where
+    same : (b : Bool) → has_tag other tag (cond b (dead_record r) r) ≡ has_tag other tag r
+    same true = refl
+    same false = refl
+
+stop_of_entry : (area : Area) (id : ℕ) (e : Entry) (s : Stop) → IsBook area → entry_of area.entries id ≡ Some e → IsInRecord (with_record id dead_record (map record_of area.entries)) s → s.id ≡ id → Covers e s.tag
+stop_of_entry area id e s book found there its_id =
+    let was : IsInRecord (map record_of area.entries) s = sym (same_ranges id s.id s.tag (map record_of area.entries)) ∙ there in
+    let t = the_entry area s.id (λ (r : Record). in_range r.start r.length s.tag) book was in
+    let same : t.entry ≡ e = same_Some t.entry e (sym t.is ∙ (ap (entry_of area.entries) its_id ∙ found)) in
+    subst (λ (x : Entry). Covers x s.tag) same (in_range_means t.entry.start t.entry.length s.tag t.passes)
+
+-- a stop of the id tells a tag of the entry's range
+abbrev pub IsOfEntry : ℕ → Entry → Stop → Type 0
+IsOfEntry id e s = s.id ≡ id → Covers e s.tag
+
+stops_of_entry : (area : Area) (id : ℕ) (e : Entry) (k : Shape) (from p : ListPart) → IsBook area → entry_of area.entries id ≡ Some e → from.records ≡ with_record id dead_record (map record_of area.entries) → from.stops ≡ [] → Reads k from p → All (IsOfEntry id e) p.stops
+stops_of_entry area id e k from p book found records none reads =
+    let begun : All (IsInRecord from.records) from.stops = subst (λ st. All (IsInRecord from.records) st) (sym none) (All-nil (IsInRecord from.records)) in
+    let marks = with_record id dead_record (map record_of area.entries) in
+    All-weaker (IsInRecord marks) (IsOfEntry id e) (λ s h. stop_of_entry area id e s book found h) p.stops
+    (subst (λ rs. All (IsInRecord rs) p.stops) ((reads_keep k from p reads).records ∙ records) (reads_within k from p reads begun))
+
 -- ---- the sweep
 
 pub record UnloadSwept (l : LockedShown) (id : ℕ) (e : Entry) (p : ListPart) : Type 0 where
   pub ends : OneSwept id p
+  pub within : All (IsOfEntry id e) p.stops
   pub part : p ≡ part_of (with_part p (marked id l))
   pub most : p.reads ≤ l.reads + 2 * l.board.shape.cpus * e.length
   pub some : l.reads < p.reads
@@ -150,6 +185,7 @@ unload_swept l id e p ok found loaded unused reads still =
     let dead : list_any test p.records ≡ true = subst (λ rs. list_any test rs ≡ true) (sym (records ∙ records_changed l.area.entries id e kept at)) (any_at test (map record_of at.front) (record_of (kept e)) (map record_of at.back) (and_from _ _ (eq-eqb e.id id at.same_id) refl)) in
     record {
       ends = one_swept id p still (accounted_here _ _ _ accounted dead) (omega (arith, keep.few)) (reads_above_zero k from p reads refl);
+      within = stops_of_entry l.area id e k from p ok.book found refl refl reads;
       part = part_after (marked id l) k from p (records_marked l id) refl reads;
       most = omega (arith, keep.bound, marks_at_most k (part_of l) from rises row);
       some = reads_some k from p reads refl still;
@@ -202,6 +238,7 @@ unloaded_kept l new e p stop swept first is = subst (λ (x : LockedShown). Unloa
           board = refl;
           sections = refl;
           ends = (refl, one ∙ stop_with s stop e.id same its_id, λ zero. sum (ap (λ (x : Stop). x.sum) same ∙ zero));
+          within = subst (λ (x : Stop). Covers e x.tag) same (All-head (IsOfEntry e.id e) s [] (subst (λ st. All (IsOfEntry e.id e) st) one swept.within) its_id);
           most = swept.most;
           some = swept.some;
         }
@@ -214,6 +251,7 @@ unloaded_gone l new e p swept first is = subst (λ (x : LockedShown). Unloaded e
       board = refl;
       sections = refl;
       ends = (ap (λ es. with_entries es l) (without_kept e.id l.area.entries), none);
+      within = tt;
       most = swept.most;
       some = swept.some;
     }
