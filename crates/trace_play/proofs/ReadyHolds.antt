@@ -134,7 +134,7 @@ module _ (trace : Trace) (few : trace.cpus ≤ 64) where
     inside = inside;
   }
 
-  round_modules : (ops : List OnOp) (walk after : Walk) (m : Machine) → All FitsOn ops → All (IsFormedOn trace.cpus trace.sections) ops → walk_ops ops (begun walk) ≡ Ok after → Between trace walk m → Modules trace walk m → (f : RoundFits ops (begun walk) m) → f.after ≡ after → Modules trace after (round_done ops m)
+  pub round_modules : (ops : List OnOp) (walk after : Walk) (m : Machine) → All FitsOn ops → All (IsFormedOn trace.cpus trace.sections) ops → walk_ops ops (begun walk) ≡ Ok after → Between trace walk m → Modules trace walk m → (f : RoundFits ops (begun walk) m) → f.after ≡ after → Modules trace after (round_done ops m)
   round_modules ops walk after m are formed e b h f same =
       let entries = m.area.entries in
       let left = cpus_done ops m in
@@ -211,7 +211,7 @@ module _ (trace : Trace) (few : trace.cpus ≤ 64) where
 
   -- ---- the items
 
-  item_modules : (top : Option ℕ) (what : Item) (walk next : Walk) (p : Played) → FitsItem what → IsFormedItem trace.cpus trace.sections what → walk_item what walk ≡ Ok next → Between trace walk p.machine → Modules trace walk p.machine → Modules trace next (item_played trace top what p).machine
+  pub item_modules : (top : Option ℕ) (what : Item) (walk next : Walk) (p : Played) → FitsItem what → IsFormedItem trace.cpus trace.sections what → walk_item what walk ≡ Ok next → Between trace walk p.machine → Modules trace walk p.machine → Modules trace next (item_played trace top what p).machine
   unfolding walk_item
   item_modules top (item.Round ops) walk next p are formed e b h =
       let f = fits_of_round trace ops walk next p.machine are formed b e in
@@ -239,7 +239,7 @@ module _ (trace : Trace) (few : trace.cpus ≤ 64) where
       all_same (suc n) zero = refl
       all_same (suc n) (suc section) = all_same n section
 
-  first_modules : Modules trace start (machine_of trace)
+  pub first_modules : Modules trace start (machine_of trace)
   first_modules = record {
     long = (idle_at 64 0).0;
     inside_loaded = λ cpu section e. let no : ⊥ = cc (e, ap (is_inside section) (idle_at 64 cpu).1) in absurd no;
@@ -250,7 +250,7 @@ module _ (trace : Trace) (few : trace.cpus ≤ 64) where
   }
 
 -- what items that are not refused keep
-items_both : (Q : Walk → Machine → Type 0) (trace : Trace) (top : Option ℕ)
+pub items_both : (Q : Walk → Machine → Type 0) (trace : Trace) (top : Option ℕ)
     → ((what : Item) (walk next : Walk) (p : Played) → FitsItem what → IsFormedItem trace.cpus trace.sections what → walk_item what walk ≡ Ok next → Between trace walk p.machine → Q walk p.machine → Q next (item_played trace top what p).machine)
     → (items : List Item) (walk next : Walk) (p : Played) → All FitsItem items → All (IsFormedItem trace.cpus trace.sections) items → walk_items items walk ≡ Ok next → Between trace walk p.machine → Q walk p.machine → (play trace top items p).refused ≡ None
     → Between trace next (play trace top items p).played.machine × Q next (play trace top items p).played.machine
@@ -311,7 +311,7 @@ all_may trace entries state may_count sections tags may (one_more before others 
     both true b p q = q
     both false b p q = let no : ⊥ = cc in absurd no
 
-ready_round : (trace : Trace) (ops : List OnOp) (walk : Walk) (m : Machine) → trace.cpus ≤ 64 → All FitsOn ops → All (IsFormedOn trace.cpus trace.sections) ops → Between trace walk m → Modules trace walk m → IsSound m → (f : RoundFits ops (begun walk) m) → IsReady trace ops (begun walk) f.after m
+pub ready_round : (trace : Trace) (ops : List OnOp) (walk : Walk) (m : Machine) → trace.cpus ≤ 64 → All FitsOn ops → All (IsFormedOn trace.cpus trace.sections) ops → Between trace walk m → Modules trace walk m → IsSound m → (f : RoundFits ops (begun walk) m) → IsReady trace ops (begun walk) f.after m
 ready_round trace ops walk m few are formed b h s f =
     let entries = m.area.entries in
     let before = begun walk in
