@@ -316,9 +316,9 @@ all_size entries [] w = same_size w.seat.node
 all_size entries (what ∷ ops) w = size_then w.seat.node (done entries what w).seat.node _ (step_size entries what w) (all_size entries ops (done entries what w))
 
 -- each seat is as large as it was made
-record Sized (count frames vectors : ℕ) (m : Machine) : Type 0 where
-  long : length m.seats ≡ count
-  sizes : (h : ℕ) → h < count → (length (seat_at h m).node.slabs ≡ frames) × (length (seat_at h m).node.vectors ≡ vectors)
+pub record Sized (count frames vectors : ℕ) (m : Machine) : Type 0 where
+  pub long : length m.seats ≡ count
+  pub sizes : (h : ℕ) → h < count → (length (seat_at h m).node.slabs ≡ frames) × (length (seat_at h m).node.vectors ≡ vectors)
 
 -- where one seat's node changes
 seat_changes : (count frames vectors : ℕ) (m now : Machine) (at : ℕ) (seat : Seat) → now.seats ≡ set m.seats at seat → (at < count → SameSize (seat_at at m).node seat.node) → Sized count frames vectors m → Sized count frames vectors now
@@ -371,7 +371,7 @@ item_sized count frames vectors trace top (item.Load line section) p s = record 
 item_sized count frames vectors trace top item.Print p s = s
 item_sized count frames vectors trace top item.Areas p s = s
 
-sized_after : (trace : Trace) (top : Option ℕ) (items : List Item) → Sized trace.cpus trace.frames trace.vectors (played_so_far trace top items).played.machine
+pub sized_after : (trace : Trace) (top : Option ℕ) (items : List Item) → Sized trace.cpus trace.frames trace.vectors (played_so_far trace top items).played.machine
 sized_after trace top items =
     play_keeps (Sized trace.cpus trace.frames trace.vectors) trace top (item_sized trace.cpus trace.frames trace.vectors trace top) items (nothing_played trace)
     (record {

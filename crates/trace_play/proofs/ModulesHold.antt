@@ -81,7 +81,7 @@ module_set modules s x state below =
     (λ e. ap (λ (m : ModuleState). m.loaded) (get_or-set_at modules s x state absent (eqb-true x s e) below) ∙ sym (ap (λ b. cond b state.loaded (get_or modules x absent).loaded) e))
     (λ e. ap (λ (m : ModuleState). m.loaded) (get_or-set_other modules s x state absent (eqb-false x s e)) ∙ sym (ap (λ b. cond b state.loaded (get_or modules x absent).loaded) e))
 
-nobody_is : (p : CpuState → Bool) (cpus : List CpuState) (cpu : ℕ) → p idle ≡ false → count_by p cpus ≡ 0 → p (cpu_at cpus cpu) ≡ false
+pub nobody_is : (p : CpuState → Bool) (cpus : List CpuState) (cpu : ℕ) → p idle ≡ false → count_by p cpus ≡ 0 → p (cpu_at cpus cpu) ≡ false
 nobody_is p [] cpu at_rest none = at_rest
 nobody_is p (c ∷ cpus) cpu at_rest none = by (p c) refl cpu (let s = sum_by-cons (λ (x : CpuState). cond {A = ℕ} (p x) 1 0) c cpus in s)
   where
