@@ -37,7 +37,13 @@ pub record Leaves (state : WorkerState) (old new : WorkerShown) (cpu cpu_after :
 abbrev pub may_count : CpuShown → Tag → Bool
 may_count cpu tag = may_begin cpu.board.shape tag cpu.part.runs
 
--- worker and CPU belong together, there is no hand, and the CPU may count under each hook
+-- worker and CPU belong together, and there is no hand
+pub record Beside (w : WorkerShown) (seat : CpuShown) : Type 0 where
+  pub table : w.board ≡ seat.board
+  pub own : w.cpu ≡ seat.part.number
+  pub hand : seat.part.hand ≡ None
+
+-- the same, and the CPU may count under each hook
 pub record Ready (w : WorkerShown) (seat : CpuShown) : Type 0 where
   pub table : w.board ≡ seat.board
   pub own : w.cpu ≡ seat.part.number

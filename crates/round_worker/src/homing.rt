@@ -8,7 +8,7 @@ ghost use Rattle.trace_play.specs.Fits.{entry_at};
 ghost use Rattle.trace_play.specs.Fitting.{IsOf};
 ghost use Rattle.trace_play.specs.Live as live;
 ghost use Rattle.round_worker.specs.Kept.{IsKept, content_of};
-ghost use Rattle.round_worker.specs.Shown.{Ready};
+ghost use Rattle.round_worker.specs.Shown.{Beside};
 ghost use Rattle.round_worker.specs.Working.{IsGoing, going_storage, with_node, with_returning};
 
 use crate::keys::Kept;
@@ -19,6 +19,18 @@ use slab_cache::take_home;
 use std::alloc::AllocError;
 use std::mem;
 use tag_rule::CpuSeat;
+
+impl Going {
+    /// The CPU whose node the storage is of.
+    pub fn home(&self) -> u32
+        ensures { result ≡ home_of (going_storage self.now) }
+    {
+        match self {
+            Going::Block(returned) => returned.home(),
+            Going::Object(back) => back.home(),
+        }
+    }
+}
 
 impl Worker {
     /// Tells the modules as the round begins.
@@ -57,7 +69,7 @@ impl Worker {
 
     /// Takes storage home that was freed on another CPU.
     pub fn take_home(&mut self, cpu: &mut CpuSeat, going: Going)
-        requires ready { Ready self.old cpu.old }
+        requires beside { Beside self.old cpu.old }
         requires table { IsGoing self.old.board going }
         requires home { home_of (going_storage going) ≡ self.old.cpu }
         requires there { IsOf self.old.seat.node (going_storage going) }
