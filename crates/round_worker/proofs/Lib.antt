@@ -1,10 +1,10 @@
-mod KeyLemmas
-mod HookLemmas
-mod KeptLemmas
-mod DoneLemmas
-mod Keeps
-mod Given
-mod Splits
-mod Rounds
-mod TagLemmas
-mod Needs
+pub mod KeyLemmas
+pub mod HookLemmas
+pub mod KeptLemmas
+pub mod DoneLemmas
+pub mod Keeps
+pub mod Given
+pub mod Splits
+pub mod Rounds
+pub mod TagLemmas
+pub mod Needs

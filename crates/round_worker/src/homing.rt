@@ -7,11 +7,12 @@ ghost use Rattle.slab_cache.specs.Storage.{home_of};
 ghost use Rattle.trace_play.specs.Fits.{entry_at};
 ghost use Rattle.trace_play.specs.Fitting.{IsOf};
 ghost use Rattle.trace_play.specs.Live as live;
-ghost use Rattle.round_worker.specs.Kept.{IsKept, content_of};
+ghost use Rattle.round_worker.specs.Kept.{IsKept, content_of, live_of};
+ghost use Rattle.round_worker.specs.Parting.{AreKept};
 ghost use Rattle.round_worker.specs.Shown.{Beside};
 ghost use Rattle.round_worker.specs.Working.{IsGoing, going_storage, with_node, with_returning};
 
-use crate::keys::Kept;
+use crate::keys::{Kept, Keys};
 use crate::worker::{Going, Worker};
 use module_area::Entry;
 use page_ext::take_back;
@@ -56,6 +57,15 @@ impl Worker {
         ensures { OnOk result (self.new ≡ record self.old { live = live.put key (content_of kept) self.old.live }) }
     {
         self.keys.put(key, kept)
+    }
+
+    /// Gives all keys away, each with what it is bound to.
+    pub fn give_keys(&mut self) -> Keys
+        ensures live { live_of result ≡ self.old.live }
+        ensures own { AreKept self.old.board result }
+        ensures none { self.new ≡ record self.old { live = [] } }
+    {
+        mem::replace(&mut self.keys, Keys::new(self.alloc))
     }
 
     /// What the worker freed of other nodes, in the order of its frees.

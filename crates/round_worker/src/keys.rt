@@ -1,6 +1,6 @@
 //! What each key is bound to.
 
-ghost use Rattle.std.specs.Prelude.{◌≡◌, ◌==◌, ◌+◌, ◌≤◌, [], All, IsTrue, OnErr, OnOk, length, not, replicate};
+ghost use Rattle.std.specs.Prelude.{◌≡◌, ◌==◌, ◌+◌, ◌≤◌, ◌∷◌, [], All, IfNone, IfSome, IsTrue, OnErr, OnOk, length, not, replicate};
 ghost use Rattle.std.specs.FinMap.Entries.{find, is_sorted, put, where_key};
 ghost use Rattle.std.specs.Ordering.{nat_cmp};
 ghost use Rattle.tag_rule.specs.Shown.{Board};
@@ -25,9 +25,9 @@ pub enum Kept {
     Object(Obj),
 }
 
-/// The keys that are bound.
+/// The keys that are bound, each with what it is bound to.
 #[derive(Drop)]
-pub(crate) struct Keys {
+pub struct Keys {
     kept: BTreeMap<u32, Kept>,
 }
 
@@ -68,8 +68,23 @@ impl Keys {
         Ok(())
     }
 
+    /// Unbinds the first key, and tells it with what it was bound to.
+    pub fn pop(&mut self) -> Option<(u32, Kept)>
+        ensures first { IfSome result (λ entry. self.old ≡ entry ∷ self.new) }
+        ensures none { IfNone result ((self.old ≡ []) × (self.new ≡ [])) }
+        ensures rises { IsTrue (is_sorted nat_cmp self.old) }
+    {
+        let _count = self.kept.len();
+        self.kept.pop_first()
+    }
+
     /// Binds the key and new ones to the parts of a block, by rising frame.
-    pub fn put_blocks(&mut self, key: u32, first: u32, parts: Vec<Block>) -> Result<(), AllocError>
+    pub(crate) fn put_blocks(
+        &mut self,
+        key: u32,
+        first: u32,
+        parts: Vec<Block>,
+    ) -> Result<(), AllocError>
         requires few { first + length parts.items ≤ 65537 }
         ensures put { OnOk result (self.new ≡ with_parts key first (blocks parts.items) 0 self.old) }
         ensures kept { (board : Board) → AreKept board self.old → All (IsKept board) (blocks parts.items) → AreKept board self.new }
@@ -83,7 +98,7 @@ impl Keys {
     }
 
     /// Binds the key and new ones to nothing, as the parts of nothing.
-    pub fn put_nothings(
+    pub(crate) fn put_nothings(
         &mut self,
         key: u32,
         first: u32,

@@ -12,6 +12,6 @@ mod round;
 mod splitting;
 mod worker;
 
-pub use keys::Kept;
+pub use keys::{Kept, Keys};
 pub use round::{Gate, OpenGate};
 pub use worker::{Going, Worker};
