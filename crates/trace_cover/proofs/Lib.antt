@@ -1,0 +1,9 @@
+pub mod Passes
+pub mod Areas
+pub mod RoundMay
+pub mod Holds
+pub mod Items
+pub mod StayIn
+pub mod Few
+pub mod Quiet
+pub mod Told
