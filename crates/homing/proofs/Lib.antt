@@ -1,0 +1,5 @@
+pub mod SeatLemmas
+mod CpuLemmas
+pub mod WorkerLemmas
+mod Turns
+pub mod Checked
