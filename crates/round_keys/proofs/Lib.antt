@@ -1,0 +1,4 @@
+pub mod OwnersNamed
+pub mod ComingBack
+pub mod HandLemmas
+pub mod StoredLemmas

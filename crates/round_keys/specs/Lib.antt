@@ -1,0 +1,3 @@
+pub mod Handed
+pub mod Handing
+pub mod Stored

@@ -1,0 +1,27 @@
+-- What the store tells of its keys.
+use Rattle.std.specs.Prelude.{ℕ, ◌≡◌, ◌<◌, ⊤, Option, Some, None, IsTrue, count_by}
+use Rattle.std.specs.List.{flat_map}
+use Rattle.tag_model.specs.Telling.{is_covered_by}
+use Rattle.tag_model.specs.Index.{Slot}
+use Rattle.tag_model.specs.declared.state.Held.{Held}
+use Rattle.tag_model.specs.declared.state.Held.TheVariants as held
+use Rattle.tag_model.specs.declared.state.Tag.{Tag}
+use Rattle.reclaim.specs.State.{LockedShown, part_of}
+use Rattle.trace_play.specs.Live.{Content, Live, held_of}
+use Rattle.trace_play.specs.Machine.{content_cell, is_counted}
+use Rattle.round_worker.specs.declared.keys.Kept.{Kept}
+use Rattle.round_worker.specs.Kept.{content_of}
+
+-- a counted reference's tag is the kernel's, or a record of the list has it in its range
+abbrev pub IsCovered : LockedShown → Kept → Type 0
+IsCovered locked kept =
+    (tag : Tag) (size : ℕ) → held_of (content_of kept) ≡ held.Counted tag size → IsTrue (is_covered_by locked.board.shape (part_of locked).records tag)
+
+-- how many references of the keys are counted
+abbrev pub counted_in : Live → ℕ
+counted_in live = count_by (λ (entry : Slot × Held). is_counted entry.1) (flat_map (λ (entry : ℕ × Content). content_cell entry.1) live)
+
+-- the key stands behind another, if there is one
+abbrev pub IsAfter : Option ℕ → ℕ → Type 0
+IsAfter None key = ⊤
+IsAfter (Some last) key = last < key
