@@ -20,5 +20,7 @@ pub mod NeedsMet
 pub mod HooksFit
 pub mod ModulesHold
 pub mod ReadyHolds
+pub mod MovesOf
+pub mod OwnWords
 pub mod WordsTotal
 pub mod CellsFound

@@ -49,6 +49,7 @@ use Rattle.trace_play.specs.Totals.{IsAccounted, TellsLive, words_total}
 use Rattle.trace_play.proofs.Rising.{modules_live, worker_rises}
 use Rattle.trace_play.proofs.NodeLemmas.{cpu_of_vector, both_hold}
 use Rattle.trace_play.proofs.WorkerSound.{AllSound, worker_sum, step_sound}
+use Rattle.trace_play.proofs.MovesOf.{AreOf, all_of, home_moves_of, of_both}
 use Rattle.trace_play.proofs.MachineSound.{elsewhere, to_worker, turns, item_sound, first_sound, after_items, OnTheWay, home_low, one_home, sets_out, same_parts}
 use Rattle.trace_play.proofs.TraceFits.{Between, fits_of_round, modules_seats, round_count}
 use Rattle.trace_play.proofs.TotalsHold.{accounted, modules_tally, totals_after}
@@ -56,128 +57,11 @@ use Rattle.trace_play.proofs.TotalsHold.{accounted, modules_tally, totals_after}
 -- ---- moves of the CPUs below a number
 
 module _ (count : ℕ) where
-  abbrev is_low : Move → Bool
-  is_low move = ltb move.cpu count
-
   abbrev pub AreLow : List Move → Type 0
-  AreLow moves = list_all is_low moves ≡ true
+  AreLow = AreOf (λ cpu. ltb cpu count)
 
-  low_both : (one two : List Move) → AreLow one → AreLow two → AreLow (one ++ two)
-  low_both one two p q = list_all-append is_low one two ∙ (λ i. p i && q i)
-
-  module _ (cpu : ℕ) (low : cpu < count) where
-    so : ltb cpu count ≡ true
-    so = lt-ltb cpu count low
-
-    low_open : (h : Held) → AreLow (open_moves cpu h)
-    low_open held.None = refl
-    low_open held.Empty = refl
-    low_open (held.Counted tag size) = λ i. so i && (so i && true)
-
-    low_close : (h : Held) → AreLow (close_moves cpu h)
-    low_close held.None = refl
-    low_close held.Empty = refl
-    low_close (held.Counted tag size) = λ i. so i && (so i && true)
-
-    low_split : (parts : ℕ) (h : Held) → AreLow (split_moves cpu parts h)
-    low_split parts held.None = refl
-    low_split parts held.Empty = refl
-    low_split parts (held.Counted tag size) = λ i. so i && true
-
-    low_trim : (bytes : ℕ) (h : Held) → AreLow (trim_moves cpu bytes h)
-    low_trim bytes held.None = refl
-    low_trim bytes held.Empty = refl
-    low_trim bytes (held.Counted tag size) = λ i. so i && true
-
-  -- ---- a node
-
-  abbrev MaybeLow : Option Given → Type 0
-  MaybeLow None = ⊤
-  MaybeLow (Some given) = AreLow given.moves
-
-  block_low : (tag : Option Tag) (order : ℕ) (node : NodeState) → node.node.cpu < count → MaybeLow (given_block tag order node)
-  block_low tag order node low = by (start_in order node)
-    where
-      by : (start : Option ℕ) → MaybeLow (option_map (block_from tag order node) start)
-      by None = tt
-      by (Some start) = low_open node.node.cpu low _
-
-  object_low : (tag : Option Tag) (size : ℕ) (node : NodeState) → node.node.cpu < count → MaybeLow (given_object tag size node)
-  object_low tag size node low = by (class_of size)
-    where
-      by_start : (class : ℕ) (start : Option ℕ) → MaybeLow (option_map (object_from_new tag class node) start)
-      by_start class None = tt
-      by_start class (Some start) =
-          let same = cpu_of_vector true (lowest_vector node) (with_pages true start (slab_order class) node) in
-          low_both (open_moves node.node.cpu (slab_held class)) _ (low_open node.node.cpu low (slab_held class)) (low_open (with_new_slab class start node).node.cpu (subst (λ n. n < count) (sym same) low) _)
-
-      by_slab : (class frame : ℕ) (slab : Option Slab) → MaybeLow (option_map (object_from tag class frame node) slab)
-      by_slab class frame None = tt
-      by_slab class frame (Some slab) = low_open node.node.cpu low _
-
-      by_frame : (class : ℕ) (frame : Option ℕ) → MaybeLow (slab_or_new tag class node frame)
-      by_frame class None = by_start class (start_in (slab_order class) node)
-      by_frame class (Some frame) = by_slab class frame (slab_at frame node)
-
-      by : (class : Option ℕ) → MaybeLow (object_or_block tag size node class)
-      by None = block_low tag (classes.order_of size) node low
-      by (Some class) = by_frame class (open_frame class node)
-
-  place_low : (frame place : ℕ) (node : NodeState) → node.node.cpu < count → (o : Option Slab) → AreLow (place_home frame place node o).moves
-  place_low frame place node low None = refl
-  place_low frame place node low (Some slab) = by (is_used (with_place false place slab))
-    where
-      by : (b : Bool) → AreLow (cond {A = Taken} b (record { node = with_slab frame (Some (with_place false place slab)) node; moves = [] }) (record { node = without_slab frame (with_place false place slab) node; moves = close_moves node.node.cpu (slab_held slab.class) })).moves
-      by true = refl
-      by false = low_close node.node.cpu low (slab_held slab.class)
-
-  home_moves_low : (given : Storage) (node : NodeState) → node.node.cpu < count → AreLow (come_home given node).moves
-  home_moves_low (Pages block) node low = refl
-  home_moves_low (Object home frame place vector holds) node low = place_low frame place node low (slab_at frame node)
-  home_moves_low (Uncounted home frame place) node low = place_low frame place node low (slab_at frame node)
-
-  -- ---- an op
-
-  one_given_low : (given : Storage) (w : WorkerState) → AreLow w.tally.moves → AreLow (one_given given w).tally.moves
-  one_given_low (Pages block) w a = a
-  one_given_low (Object home frame place vector holds) w a = a
-  one_given_low (Uncounted home frame place) w a = a
-
-  allocated_low : (key order : ℕ) (given : Option Given) (w : WorkerState) → MaybeLow given → AreLow w.tally.moves → AreLow (allocated key order given w).tally.moves
-  allocated_low key order None w is a = a
-  allocated_low key order (Some given) w is a =
-      one_given_low given.storage (with_moves given.moves (with_node given.node (with_live (put key (Stored given.storage) w.live) w))) (low_both w.tally.moves given.moves a is)
-
-  back_low : (content : Content) (w : WorkerState) → cpu_of w < count → AreLow w.tally.moves → AreLow (given_back content w).tally.moves
-  back_low (Nothing order) w low a = a
-  back_low (Stored given) w low a = by (is_home given w)
-    where
-      by : (b : Bool) → AreLow (cond {A = WorkerState} b (with_taken (come_home given w.seat.node) w) (sent_home given w)).tally.moves
-      by true = low_both w.tally.moves (come_home given w.seat.node).moves a (home_moves_low given w.seat.node low)
-      by false = a
-
-  step_low : (entries : List Entry) (what : TraceOp) (w : WorkerState) → cpu_of w < count → AreLow w.tally.moves → AreLow (done entries what w).tally.moves
-  step_low entries (op.Page key order) w low a = allocated_low key order (given_block (current_tag w) order w.seat.node) w (block_low (current_tag w) order w.seat.node low) a
-  step_low entries (op.Kmalloc key size) w low a = allocated_low key 0 (given_object (current_tag w) size w.seat.node) w (object_low (current_tag w) size w.seat.node low) a
-  step_low entries (op.Free key) w low a =
-      let moves = close_moves (cpu_of w) (held_of (content_at key w.live)) in
-      back_low (content_at key w.live) (with_moves moves (with_live (without key w.live) w)) low (low_both w.tally.moves moves a (low_close (cpu_of w) low (held_of (content_at key w.live))))
-  step_low entries (op.Split key order first) w low a = low_both w.tally.moves _ a (low_split (cpu_of w) low _ (held_of (content_at key w.live)))
-  step_low entries (op.Swap one two) w low a = a
-  step_low entries (op.Trim key pages) w low a = low_both w.tally.moves _ a (low_trim (cpu_of w) low (pages * 4096) (held_of (content_at key w.live)))
-  step_low entries (op.Hook section index) w low a = a
-  step_low entries op.Unhook w low a = a
-  step_low entries (op.Enter section) w low a = a
-  step_low entries (op.Leave section) w low a = a
-  step_low entries (op.Unload section) w low a = a
-
-  all_low : (cpu many : ℕ) (nodes : ℕ → NodeState) (els : (Storage → ℕ) → ℕ) (below : cpu < many) (are : (h : ℕ) → h < many → h ≢ cpu → (nodes h).node.cpu ≡ h) → cpu < count
-      → (entries : List Entry) (ops : List TraceOp) (w : WorkerState) → T (rises w.live) → AllFit entries ops w → AllSound cpu many nodes els w.seat.node (worker_sum els w) → AreLow w.tally.moves → AreLow (all_done entries ops w).tally.moves
-  all_low cpu many nodes els below are low entries [] w r f s a = a
-  all_low cpu many nodes els below are low entries (what ∷ ops) w r f s a =
-      all_low cpu many nodes els below are low entries ops (done entries what w) (worker_rises entries (what ∷ []) w r) f.1
-      (step_sound cpu many nodes els below are entries what w r f.0 s)
-      (step_low entries what w (subst (λ n. n < count) (sym s.cpu_is) low) a)
+  all_low : (cpu : ℕ) → cpu < count → (entries : List Entry) (ops : List TraceOp) (w : WorkerState) → cpu_of w ≡ cpu → AreLow w.tally.moves → AreLow (all_done entries ops w).tally.moves
+  all_low cpu low entries ops w own a = all_of (λ c. ltb c count) entries ops w (ap (λ c. ltb c count) own ∙ lt-ltb cpu count low) a
 
   -- ---- the barrier
 
@@ -188,7 +72,7 @@ module _ (count : ℕ) where
       let low = home_low many m given rest o in
       let cpu = o.cpus home (omega (arith, o.long)) in
       all_home_low many rest (storage_home m given) few (one_home many m given rest o)
-      (low_both m.tally.moves (come_home given (seat_at home m).node).moves a (home_moves_low given (seat_at home m).node (omega (arith, o.long))))
+      (of_both (λ c. ltb c count) m.tally.moves (come_home given (seat_at home m).node).moves a (home_moves_of (λ c. ltb c count) given (seat_at home m).node (lt-ltb _ count (omega (arith, o.long)))))
 
   pub record LowMoves (m : Machine) : Type 0 where
     pub sound : IsSound m
@@ -213,7 +97,7 @@ item_low trace top (item.Round ops) walk next p are formed e b s =
     let left = turns ops (begun walk) next p.machine are (record { keys = b.fits.keys; modules = b.fits.modules }) e b.rise b.agree f same (λ (now : Machine). (length now.seats ≡ trace.cpus) × AreLow trace.cpus now.tally.moves)
     (λ cpu now low up fit sound h. (
       length-set now.seats cpu _ ∙ h.0,
-      all_low trace.cpus cpu (length now.seats) (λ k. (seat_at k now).node) (elsewhere now cpu) low (λ k small differ. sound.cpus k small) (omega (arith, h.0)) now.area.entries (ops_of cpu ops) (worker_at cpu now) up fit (to_worker now cpu low sound) h.1,
+      all_low trace.cpus cpu (omega (arith, h.0)) now.area.entries (ops_of cpu ops) (worker_at cpu now) (sound.cpus cpu low) h.1,
     ))
     s.sound (s.seats, s.low) in
     record {

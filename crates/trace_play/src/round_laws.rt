@@ -1,6 +1,7 @@
 //! Laws of the ops of a round. The functions do nothing: what they promise are laws of the definitions.
 
-ghost use Rattle.std.specs.Prelude.{ℕ, Bool, List, false, length, true, ◌<◌, ◌≡◌, ◌≢◌};
+ghost use Rattle.std.specs.Prelude.{ℕ, Bool, List, false, length, true, ◌+◌, ◌<◌, ◌≡◌, ◌≢◌, ◌≤◌};
+ghost use Rattle.tag_model.specs.RefMoves.{words_after_moves};
 ghost use Rattle.module_area.specs.declared.entry.Entry.{Entry};
 ghost use Rattle.trace.specs.declared.traces.OnOp.{OnOp};
 ghost use Rattle.trace.specs.declared.traces.TraceOp.{TraceOp};
@@ -40,4 +41,18 @@ pub fn order_does_not_matter()
     ensures { (mine yours : ℕ → Bool) (ops : List OnOp) (m : Machine) (one two : ℕ) → rises m.live ≡ true → one ≢ two → AreApart mine yours
         → NamesItsOwn mine ops m one → NamesItsOwn yours ops m two
         → SameButOrder (cpu_done ops (cpu_done ops m one) two) (cpu_done ops (cpu_done ops m two) one) }
+{}
+
+/// What a CPU's words are behind a round's ops: what the moves of its own worker make of them, whatever the others do.
+pub fn words_are_of_their_cpus()
+    ensures { (own : ℕ → ℕ → Bool) (ops : List OnOp) (m : Machine) → ((cpu : ℕ) → cpu < length m.seats → (seat_at cpu m).node.node.cpu ≡ cpu)
+        → rises m.live ≡ true → NoneShared own → ((cpu : ℕ) → cpu < length m.seats → NamesItsOwn (own cpu) ops m cpu)
+        → (cpu : ℕ) → cpu < length m.seats → (words : List ℕ)
+        → words_after_moves cpu words (cpus_done ops m).tally.moves ≡ words_after_moves cpu (words_after_moves cpu words m.tally.moves) (worker_done own ops m cpu).tally.moves }
+{}
+
+/// Some ops of a CPU count no more allocations that found no frames than they are, and no more objects without a cell.
+pub fn each_op_counts_one()
+    ensures failed { (entries : List Entry) (ops : List TraceOp) (w : WorkerState) → (all_done entries ops w).tally.failed ≤ w.tally.failed + length ops }
+    ensures uncounted { (entries : List Entry) (ops : List TraceOp) (w : WorkerState) → (all_done entries ops w).tally.uncounted ≤ w.tally.uncounted + length ops }
 {}
