@@ -6,4 +6,5 @@ pub mod Items
 pub mod StayIn
 pub mod Few
 pub mod Quiet
+pub mod Counts
 pub mod Told

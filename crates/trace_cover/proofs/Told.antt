@@ -32,7 +32,14 @@ use Rattle.trace_play.proofs.AloneLemmas.{holds}
 use Rattle.trace_play.proofs.CellsFound.{Sized, sized_after}
 use Rattle.trace_play.proofs.ModulesHold.{Along, lines_along}
 use Rattle.trace_play.proofs.Rising.{fold_keeps}
+use Rattle.trace_play.specs.Totals.{IsAccounted, words_total}
+use Rattle.trace_play.proofs.TotalsHold.{accounted, totals_after}
 use Rattle.trace_play.proofs.TraceFits.{item_between}
+use Rattle.trace_play.proofs.WordsTotal.{AreLow, low_after, words_are_live}
+use Rattle.tag_model.specs.declared.state.Kind.{Kind}
+use Rattle.tag_model.specs.Reference.{live_total}
+use Rattle.tag_model.specs.Wrap.{wrap}
+use Rattle.std.proofs.lemmas.List.{append_assoc}
 use Rattle.trace_cover.specs.Cover.{AreCounted, AreNamed, HasCover, held_may, is_covered}
 use Rattle.trace_cover.proofs.Areas.{or_left}
 use Rattle.trace_cover.proofs.Passes.{AllMay, content_may}
@@ -199,3 +206,14 @@ module _ (trace : Trace) (top : Option ℕ) (ops : List OnOp) (before after : Wa
   round_counted =
       let m = (played_so_far trace top round.front).played.machine in
       are_counted trace (all_home (modules_done ops (cpus_done ops m))) covered_behind (formed.sections.within_limits 0 formed.kernel) round_few
+
+  -- the words of all CPUs behind a round's work
+  pub round_tells : (kind : Kind) (tag : ℕ) → wrap (words_total (all_home (modules_done ops (cpus_done ops (played_so_far trace top round.front).played.machine))) kind tag) ≡ wrap (live_total kind tag (live_cells (all_home (modules_done ops (cpus_done ops (played_so_far trace top round.front).played.machine)))))
+  round_tells kind tag =
+      let stands : trace.body ≡ (round.front ++ item.Round ops ∷ []) ++ round.back = round.stands ∙ sym (append_assoc round.front (item.Round ops ∷ []) round.back) in
+      let q = (played_so_far trace top (round.front ++ item.Round ops ∷ [])).played.machine in
+      let l = low_after trace top formed passes (round.front ++ item.Round ops ∷ []) round.back stands in
+      let low : AreLow (length q.seats) q.tally.moves = subst (λ n. AreLow n q.tally.moves) (sym l.seats) l.low in
+      let accounts : IsAccounted q = λ kind tag. accounted kind tag q (totals_after kind tag trace top formed passes (round.front ++ item.Round ops ∷ []) round.back stands) in
+      let tells = words_are_live q accounts low kind tag (live_total kind tag (live_cells q)) (accounts kind tag) in
+      subst (λ (p : Played). wrap (words_total p.machine kind tag) ≡ wrap (live_total kind tag (live_cells p.machine))) (play_round trace top ops round.front (nothing_played trace) none) tells
