@@ -1,0 +1,4 @@
+pub mod RowLemmas
+pub mod EntryLemmas
+pub mod CountLemmas
+pub mod WordLemmas
