@@ -1,0 +1,10 @@
+pub mod Members
+pub mod Alike
+pub mod CpuLists
+pub mod Knows
+pub mod Closing
+pub mod Stepping
+pub mod Told
+pub mod Marks
+pub mod Leaves
+pub mod Closed
