@@ -76,6 +76,19 @@ seats_of_with [] workers long = refl
 seats_of_with (seat ∷ seats) [] long = absurd (omega (arith, long))
 seats_of_with (seat ∷ seats) (w ∷ workers) long = ap (λ (rest : List Seat). seat ∷ rest) (seats_of_with seats workers (omega (arith, long)))
 
+-- but for their seats they are as before
+pub rest_of_with : (seats : List Seat) (workers : List WorkerShown) → length seats ≡ length workers → map but_seat (with_seats seats workers) ≡ map but_seat workers
+rest_of_with [] [] long = refl
+rest_of_with [] (w ∷ workers) long = absurd (omega (arith, long))
+rest_of_with (seat ∷ seats) [] long = absurd (omega (arith, long))
+rest_of_with (seat ∷ seats) (w ∷ workers) long = ap (λ (rest : List WorkerShown). but_seat w ∷ rest) (rest_of_with seats workers (omega (arith, long)))
+
+pub with_seat_at : (seats : List Seat) (workers : List WorkerShown) (i : ℕ) (w : WorkerShown) (seat : Seat) → i < length seats → i < length workers → get_or (with_seats seats workers) i w ≡ record (get_or workers i w) { seat = get_or seats i seat }
+with_seat_at [] workers i w seat low below = absurd (omega (arith, low))
+with_seat_at (s ∷ seats) [] i w seat low below = absurd (omega (arith, below))
+with_seat_at (s ∷ seats) (x ∷ workers) zero w seat low below = refl
+with_seat_at (s ∷ seats) (x ∷ workers) (suc i) w seat low below = with_seat_at seats workers i w seat (omega (arith, low)) (omega (arith, below))
+
 -- ---- storage goes home
 
 module _ (workers : List WorkerShown) (cpus : List CpuShown) (beside : AreBeside workers cpus) (given : Storage) (finds : Finds (seats_of workers) given) where

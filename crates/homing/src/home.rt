@@ -20,6 +20,7 @@ pub fn bring_home(workers: &mut [Worker], cpus: &mut [CpuSeat])
     ensures workers { workers.new ≡ with_seats (seats_home (seats_of workers.old)) workers.old }
     ensures home { (m : Machine) → m.seats ≡ seats_of workers.old → seats_of workers.new ≡ (all_home m).seats }
     ensures cpus { cpus.new ≡ map (moved_by (home_moves (seats_of workers.old))) cpus.old }
+    ensures beside { AreBeside workers.new cpus.new }
 {
     for index in 0..workers.len() {
         let going = workers[index].returned();

@@ -64,3 +64,6 @@ returns-clause-home c = as_the_machine c.args.workers.now c.args.cpus.now c.loop
 
 pub returns-clause-cpus : goal.returns-clause-cpus
 returns-clause-cpus c = cpus_are c.args.workers.now c.args.cpus.now c.loop-index.index c.loop-index.workers c.loop-index.cpus c.loop-index.invariant (omega (arith, c.loop-index-test.false, c.loop-index.auto.workers))
+
+pub returns-clause-beside : goal.returns-clause-beside
+returns-clause-beside c = c.loop-index.invariant.beside
