@@ -11,3 +11,5 @@ pub mod QuietParts
 pub mod QuietSweep
 pub mod QuietClean
 pub mod Releasing
+pub mod Boards
+pub mod MayTake

@@ -14,6 +14,8 @@ mod sending;
 mod stepping;
 mod sweeping;
 pub mod telling;
+#[cfg(test)]
+mod tests;
 pub mod unloading;
 
 pub use answers::{NotLoaded, Reclaim, UnloadError};

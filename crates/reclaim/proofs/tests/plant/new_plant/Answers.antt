@@ -1,0 +1,102 @@
+use Rattle.std.proofs.Common.{◌≡◌, ℕ, ◌<◌, ◌≤◌, All, IsTrue, None, List, [], ◌∷◌, length, map, slice_index_or, refl, ap, sym, ◌∙◌, subst, arith}
+use Rattle.std.proofs.lemmas.Grind.{common_steps}
+use Rattle.std.proofs.lemmas.List.FromFn.{get_or-map-range_with_len, length-map-range_with_len}
+use Rattle.std.specs.List.{range_with_len}
+use Rattle.tag_model.specs.declared.shape.Shape.{Shape}
+use Rattle.tag_model.specs.Index.{page_index}
+use Rattle.tag_model.specs.WordState.{in_range}
+use Rattle.tag_rule.specs.declared.making.Seats.{Seats}
+use Rattle.tag_rule.specs.Fresh.{fresh_cpu}
+use Rattle.tag_rule.specs.Made.{AreFresh}
+use Rattle.tag_rule.specs.Shown.{Board, CellShown, CpuShown, ListShown, PassShown, PoolShown, has}
+use Rattle.tag_rule.proofs.Runs.{has_range}
+use Rattle.reclaim.specs.State.{LockedShown}
+use Rattle.reclaim.proofs.tests.plant.new_plant.Goals as goal
+
+some_cpu : (k : Shape) (s : Seats) (f : AreFresh k s) → 0 < k.cpus → 0 < f.board.shape.cpus
+some_cpu k s f some = subst (λ (shape : Shape). 0 < shape.cpus) (sym f.shape) some
+
+-- the first CPU's pool of page cells
+first_pool : (k : Shape) (s : Seats) (f : AreFresh k s) (p : PoolShown) → 0 < k.cpus → p ≡ slice_index_or s.pages.items 0 p
+    → p ≡ record { board = f.board; cells = range_with_len (page_index f.board.shape 0 0) f.board.shape.frames }
+first_pool k s f p some is =
+    is ∙ ap (λ (pools : List PoolShown). slice_index_or pools 0 p) f.pages
+    ∙ get_or-map-range_with_len (λ n. record { board = f.board; cells = range_with_len (page_index f.board.shape n 0) f.board.shape.frames }) 0 f.board.shape.cpus 0 0 p (some_cpu k s f some) refl
+
+longer : (first count all n : ℕ) → count ≤ all → IsTrue (in_range first count n) → IsTrue (in_range first all n)
+longer first count all n le h = grind (arith, common_steps)
+
+pool_has : (k : Shape) (s : Seats) (f : AreFresh k s) (p : PoolShown) (first count n : ℕ) → 0 < k.cpus → p ≡ slice_index_or s.pages.items 0 p → first ≡ page_index k 0 0 → count ≤ k.frames
+    → IsTrue (in_range first count n) → IsTrue (has p n)
+pool_has k s f p first count n some is at le h =
+    let there : IsTrue (in_range (page_index k 0 0) k.frames n) = longer (page_index k 0 0) count k.frames n le (subst (λ x. IsTrue (in_range x count n)) at h) in
+    let shown : IsTrue (in_range (page_index f.board.shape 0 0) f.board.shape.frames n) = subst (λ (shape : Shape). IsTrue (in_range (page_index shape 0 0) shape.frames n)) (sym f.shape) there in
+    ap (λ (pool : PoolShown). has pool n) (first_pool k s f p some is) ∙ has_range n (page_index f.board.shape 0 0) f.board.shape.frames ∙ shown
+
+cpu_at : (k : Shape) (s : Seats) (f : AreFresh k s) (i : ℕ) (d : CpuShown) → i < length s.cpus.items → slice_index_or s.cpus.items i d ≡ record { board = f.board; part = fresh_cpu f.board.shape i }
+cpu_at k s f i d low =
+    let all : length s.cpus.items ≡ f.board.shape.cpus = ap length f.cpus ∙ length-map-range_with_len (λ n. record { board = f.board; part = fresh_cpu f.board.shape n }) 0 f.board.shape.cpus in
+    ap (λ (cpus : List CpuShown). slice_index_or cpus i d) f.cpus ∙ get_or-map-range_with_len (λ n. record { board = f.board; part = fresh_cpu f.board.shape n }) 0 f.board.shape.cpus i i d (omega (arith, all, low)) (omega arith)
+
+cpus_long : (k : Shape) (s : Seats) (f : AreFresh k s) → length s.cpus.items ≡ k.cpus
+cpus_long k s f =
+    ap length f.cpus ∙ length-map-range_with_len (λ n. record { board = f.board; part = fresh_cpu f.board.shape n }) 0 f.board.shape.cpus ∙ ap (λ (shape : Shape). shape.cpus) f.shape
+
+list_there : (k : Shape) (s : Seats) (f : AreFresh k s) → s.list.board ≡ f.board
+list_there k s f = ap (λ (l : ListShown). l.board) f.list
+
+cpus_there : (k : Shape) (s : Seats) (f : AreFresh k s) → All (λ (c : CpuShown). c.board ≡ s.list.board) s.cpus.items
+cpus_there k s f i d low = ap (λ (c : CpuShown). c.board) (cpu_at k s f i d low) ∙ sym (list_there k s f)
+
+-- the CPUs are numbered from 0 on
+numbers : (b : Board) (ns : List ℕ) → map (λ (c : CpuShown). c.part.number) (map (λ n. let c : CpuShown = record { board = b; part = fresh_cpu b.shape n } in c) ns) ≡ ns
+numbers b [] = refl
+numbers b (n ∷ ns) = ap (λ xs. n ∷ xs) (numbers b ns)
+
+cpus_all : (k : Shape) (s : Seats) (f : AreFresh k s) → map (λ (c : CpuShown). c.part.number) s.cpus.items ≡ range_with_len 0 s.list.board.shape.cpus
+cpus_all k s f =
+    ap (map (λ (c : CpuShown). c.part.number)) f.cpus ∙ (numbers f.board (range_with_len 0 f.board.shape.cpus) ∙ ap (λ (b : Board). range_with_len 0 b.shape.cpus) (sym (list_there k s f)))
+
+pages_long : (k : Shape) (s : Seats) (f : AreFresh k s) → length s.pages.items ≡ k.cpus
+pages_long k s f =
+    ap length f.pages ∙ length-map-range_with_len (λ n. record { board = f.board; cells = range_with_len (page_index f.board.shape n 0) f.board.shape.frames }) 0 f.board.shape.cpus
+    ∙ ap (λ (shape : Shape). shape.cpus) f.shape
+
+pub part-run-requires-clause-there : goal.part-run-requires-clause-there
+part-run-requires-clause-there c n h =
+    pool_has c.args.shape c.in_ok-cpus.field-0 c.in_ok-cpus.ensures c.index_mut.result.now c.page_cell.result c.args.count n c.requires.checked.some_cpu c.index_mut.ensures.value c.page_cell.ensures.index c.requires.few h
+
+pub index_mut-requires : goal.index_mut-requires
+index_mut-requires c = let long = pages_long c.args.shape c.in_ok-cpus.field-0 c.in_ok-cpus.ensures in
+    let low : 0 < c.in_ok-cpus.field-0.pages.len = omega (arith, long, c.in_ok-cpus.field-0.pages.ok.0, c.requires.checked.some_cpu) in
+    low
+
+pub index-requires : goal.index-requires
+index-requires c = let long = cpus_long c.args.shape c.in_ok-cpus.field-0 c.in_ok-cpus.ensures in
+    let low : 0 < c.in_ok-cpus.field-0.cpus.len = omega (arith, long, c.in_ok-cpus.field-0.cpus.ok.0, c.requires.checked.some_cpu) in
+    low
+
+pub cells_of-requires-clause-cpu : goal.cells_of-requires-clause-cpu
+cells_of-requires-clause-cpu c =
+    let long : length c.in_ok-cpus.field-0.cpus.items ≡ c.args.shape.cpus = cpus_long c.args.shape c.in_ok-cpus.field-0 c.in_ok-cpus.ensures in
+    ap (λ (cpu : CpuShown). cpu.board) (c.index.ensures ∙ cpu_at c.args.shape c.in_ok-cpus.field-0 c.in_ok-cpus.ensures 0 c.index.result.now (omega (arith, long, c.requires.checked.some_cpu)))
+    ∙ sym (list_there c.args.shape c.in_ok-cpus.field-0 c.in_ok-cpus.ensures)
+
+pub cells_of-requires-clause-run : goal.cells_of-requires-clause-run
+cells_of-requires-clause-run c =
+    ap (λ (cell : CellShown). cell.board) c.part-run.ensures.cell
+    ∙ ap (λ (pool : PoolShown). pool.board) (first_pool c.args.shape c.in_ok-cpus.field-0 c.in_ok-cpus.ensures c.index_mut.result.now c.requires.checked.some_cpu c.index_mut.ensures.value)
+    ∙ sym (list_there c.args.shape c.in_ok-cpus.field-0 c.in_ok-cpus.ensures)
+
+pub invariant_of-result : goal.invariant_of-result
+invariant_of-result c =
+    let k = c.args.shape in
+    let s = c.in_ok-cpus.field-0 in
+    let f = c.in_ok-cpus.ensures in
+    let board : c.new-locked.result.board ≡ s.list.board = ap (λ (l : LockedShown). l.board) c.new-locked.ensures in
+    record {
+      loads_there = ap (λ (p : PassShown). p.board) f.loads ∙ (sym (list_there k s f) ∙ sym board);
+      cpus_there = subst (λ (b : Board). All (λ (x : CpuShown). x.board ≡ b) s.cpus.items) (sym board) (cpus_there k s f);
+      cpus_all = cpus_all k s f ∙ ap (λ (b : Board). range_with_len 0 b.shape.cpus) (sym board);
+      cells_there = subst (λ (b : Board). All (λ (x : CellShown). x.board ≡ b) c.in_ok-cells.cells.items) (sym board) c.in_ok-cells.ensures;
+    }

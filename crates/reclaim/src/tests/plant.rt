@@ -1,0 +1,121 @@
+//! A new table with its module list, for the tests.
+
+ghost use Rattle.std.specs.Prelude.{All, IfOk, IfSome, IsTrue, ◌<◌, ◌≡◌, ◌≤◌, map};
+ghost use Rattle.std.specs.List.{range_with_len};
+ghost use Rattle.tag_model.specs.Shape.{IsChecked};
+ghost use Rattle.tag_model.specs.StepRules.{may_begin};
+ghost use Rattle.tag_rule.specs.Shown.{CellShown, CpuShown};
+
+use crate::{Locked, enter_locked};
+use codetag::CodeTag;
+use module_area::Book;
+use std::alloc::{AllocError, Global};
+use std::sync::Arc;
+use std::test::Fail;
+use tag_model::{Shape, Tag, page_cell};
+use tag_rule::{CellSeat, CpuSeat, ListSeat, LoadPass, Seats, divide, make, part};
+use tag_section::Sections;
+
+/// The module list of a new table with its pass, all its CPUs, and cells of the first CPU's node.
+#[derive(Drop)]
+pub struct Plant {
+    pub locked: Locked,
+    pub loads: LoadPass,
+    pub cpus: Vec<CpuSeat>,
+    pub cells: Vec<CellSeat>,
+    ghost loads_there: { loads.board ≡ locked.board },
+    ghost cpus_there: { All (λ (c : CpuShown). c.board ≡ locked.board) cpus.items },
+    ghost cpus_all: { map (λ (c : CpuShown). c.part.number) cpus.items ≡ range_with_len 0 locked.board.shape.cpus },
+    ghost cells_there: { All (λ (c : CellShown). c.board ≡ locked.board) cells.items },
+}
+
+/// The kernel has a tag, and so has a module.
+fn program(alloc: Global) -> Result<Sections, Fail> {
+    let mut sections = Sections::new(alloc);
+    let _kernel = sections.begin(b"kernel")?;
+    sections.add_line(CodeTag::new(alloc, b"mm/a.c", 10, b"fa")?)?;
+    let _ext = sections.begin(b"ext")?;
+    sections.add_line(CodeTag::new(alloc, b"m/x.c", 5, b"fx")?)?;
+    Ok(sections)
+}
+
+/// The single cells of a run.
+fn cells_of(
+    alloc: Global,
+    list: &ListSeat,
+    cpu: &CpuSeat,
+    run: CellSeat,
+) -> Result<Vec<CellSeat>, AllocError>
+    requires cpu { cpu.now.board ≡ list.now.board }
+    requires run { run.board ≡ list.now.board }
+    ensures { IfOk result (λ cells. All (λ (c : CellShown). c.board ≡ list.now.board) cells.items) }
+{
+    let mut cells = Vec::new(alloc);
+    let mut rest = run;
+    while rest.count() > 1 {
+        let (one, more) = divide(cpu, rest, 1);
+        cells.push(one)?;
+        rest = more;
+    }
+    cells.push(rest)?;
+    Ok(cells)
+}
+
+/// So many CPUs, a tag of the kernel and four of the area.
+pub fn shape_of(cpus: u32) -> Shape
+    ensures { result ≡ record { cpus = cpus; tags = 5; kernel_tags = 1; frames = 64; vectors = 0 } }
+{
+    Shape {
+        cpus,
+        tags: 5,
+        kernel_tags: 1,
+        frames: 64,
+        vectors: 0,
+    }
+}
+
+pub fn new_plant(alloc: Global, shape: Shape, count: u32) -> Result<Plant, Fail>
+    requires checked { IsChecked shape }
+    requires tags { (shape.kernel_tags ≡ 1) × (shape.tags ≡ 5) }
+    requires some { 0 < count }
+    requires few { count ≤ shape.frames }
+{
+    let Seats {
+        cpus,
+        mut pages,
+        objects: _,
+        list,
+        loads,
+    } = make(alloc, shape)?;
+    let run = part(&mut pages[0], page_cell(shape, 0, 0), count);
+    let cells = cells_of(alloc, &list, &cpus[0], run)?;
+    let book = Book::new(alloc, 1, 4)?;
+    let sections = Arc::new(alloc, program(alloc)?)?;
+    let locked = Locked::new(book, list, sections);
+    Ok(Plant {
+        locked,
+        loads,
+        cpus,
+        cells,
+    })
+}
+
+/// The CPU goes into the module. The answer is the module's first tag, under which it may count then.
+pub fn enter_first(locked: &mut Locked, cpu: &mut CpuSeat, id: u32) -> Option<Tag>
+    requires { cpu.old.board ≡ locked.old.board }
+    ensures list { locked.new.board ≡ locked.old.board }
+    ensures cpu { (cpu.new.board ≡ cpu.old.board) × (cpu.new.part.number ≡ cpu.old.part.number) × (cpu.new.part.hand ≡ cpu.old.part.hand) }
+    ensures allowed { IfSome result (λ tag. IsTrue (may_begin cpu.new.board.shape tag cpu.new.part.runs)) }
+{
+    let entry = locked.book().get(id)?;
+    if id == 0 || cpu.is_inside(id) || cpu.inside_count() >= 64 {
+        return None;
+    }
+    match enter_locked(locked, cpu, id) {
+        Ok(()) => Some(Tag {
+            number: entry.start,
+            module: id,
+        }),
+        Err(_) => None,
+    }
+}
