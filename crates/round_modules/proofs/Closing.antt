@@ -143,10 +143,11 @@ module _ (cpus : List CpuShown) (first : ℕ) (book known : List Entry) (k : Kno
       let f = failing (is_quiet_tag cpus) x.start x.length (unquiet_fails cpus (kept x) refl unquiet) in
       let low : first ≤ x.start = All-contains (λ (e : Entry). first ≤ e.start) book x k.above there in
       let c = any_member (λ (e : Entry). Covers e f.tag × ((e.state ≡ Loaded) ⊎ IsSome (entry_of book e.id))) known (k.counted f.tag (omega (arith, low, f.above)) f.fails) in
-      let y = ⊎_elim (λ loaded. its c.item (its_loaded c.item c.there loaded)) (λ some. found c.item some) c.holds.1 in
+      let y : Member Entry book (λ z. z.id ≡ c.item.id) = ⊎_elim (λ loaded. its c.item (its_loaded c.item c.there loaded)) (λ some. found c.item some) c.holds.1 in
       let covers : Covers y.item f.tag = same_range y.item c.item f.tag (run_same y.item c.item y.there c.there y.holds) c.holds.0 in
       let one : x ≡ y.item = same_cover book x y.item f.tag k.apart there y.there (f.above, f.below) covers in
-      record { item = c.item; there = c.there; holds = ap (λ (e : Entry). e.id) one ∙ y.holds }
+      let one_id : x.id ≡ y.item.id = ap (λ (e : Entry). e.id) one in
+      record { item = c.item; there = c.there; holds = one_id ∙ y.holds }
     where
       its : (e : Entry) → Member Entry book (λ z. (z.id ≡ e.id) × (z.state ≡ Loaded)) → Member Entry book (λ z. z.id ≡ e.id)
       its e m = record { item = m.item; there = m.there; holds = m.holds.0 }

@@ -1,7 +1,7 @@
 -- Lists of CPUs that come in, take notes and go out.
 use Rattle.std.proofs.Common.{◌≡◌, ℕ, zero, suc, ◌-◌, ◌<◌, ◌≤◌, ◌==◌, ◌||◌, not, Bool, true, false, cond, List, [], ◌∷◌, ◌++◌, length, map, take, drop, replicate, All, refl, sym, ap, ◌∙◌, subst, arith, eq-eqb, ne_eqb}
 use Rattle.std.proofs.lemmas.Bool.{cond-true, cond-false, false≢true}
-use Rattle.std.proofs.lemmas.List.{map-append, take-append-drop}
+use Rattle.std.proofs.lemmas.List.{length-map, map-append, take-append-drop}
 use Rattle.std.proofs.lemmas.List.Elements.{All-append, All-cons, All-head, All-nil, All-tail}
 use Rattle.tag_model.specs.declared.state.Record.{Record}
 use Rattle.tag_model.specs.declared.state.Run.{Run}
@@ -192,3 +192,9 @@ numbers_out (c ∷ cs) = ap (λ ns. c.part.number ∷ ns) (numbers_out cs)
 
 pub alike_numbers : (xs ys : List CpuShown) → map outside ys ≡ map outside xs → map (λ (c : CpuShown). c.part.number) ys ≡ map (λ (c : CpuShown). c.part.number) xs
 alike_numbers xs ys same = sym (numbers_out ys) ∙ (ap (map (λ (c : CpuShown). c.part.number)) same ∙ numbers_out xs)
+
+-- CPUs with the same runs are inside the same
+pub inside_along : (n : ℕ) (runs : List Run) (xs ys : List CpuShown) → map runs_in ys ≡ map runs_in xs → AreInside n runs xs → AreInside n runs ys
+inside_along n runs xs ys same inside =
+    let long : length ys ≡ length xs = sym (length-map ys runs_in) ∙ (ap length same ∙ length-map xs runs_in) in
+    same ∙ (inside ∙ ap (λ m. replicate n runs ++ replicate (m - n) []) (sym long))

@@ -8,3 +8,5 @@ pub mod Told
 pub mod Marks
 pub mod Leaves
 pub mod Closed
+pub mod KnownBooks
+pub mod Meant

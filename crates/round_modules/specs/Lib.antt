@@ -1,3 +1,4 @@
 pub mod Known
 pub mod Inside
 pub mod Loads
+pub mod Meant

@@ -6,6 +6,7 @@ mod beginning;
 mod ending;
 mod entering;
 mod knowing;
+pub mod laws;
 mod leaving;
 mod loading;
 mod marking;
