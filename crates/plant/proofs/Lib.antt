@@ -1,0 +1,4 @@
+pub mod Dealing
+pub mod Dealt
+pub mod PoolLemmas
+pub mod WorkerLemmas

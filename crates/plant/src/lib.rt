@@ -1,0 +1,9 @@
+//! A table with all that stands on it.
+#![tactic(auto)]
+
+mod laws;
+mod starting;
+mod worker;
+
+pub use laws::workers_begin_as_the_meaning_does;
+pub use starting::{Started, start};
