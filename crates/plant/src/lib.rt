@@ -3,7 +3,9 @@
 
 mod laws;
 mod starting;
+mod table;
 mod worker;
 
 pub use laws::workers_begin_as_the_meaning_does;
-pub use starting::{Started, start};
+pub use starting::Started;
+pub use table::Plant;

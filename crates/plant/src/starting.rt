@@ -37,7 +37,7 @@ pub struct Started {
 }
 
 /// Deals the tokens of a fresh table to the workers of a trace. The sections are those of the trace.
-pub fn start(
+pub(crate) fn deal(
     alloc: Global,
     shape: Shape,
     seats: Seats,

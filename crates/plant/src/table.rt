@@ -1,0 +1,120 @@
+//! A table with all that stands on it.
+
+ghost use Rattle.std.specs.Prelude.{◌≡◌, ◌<◌, [], IfOk, IsTrue, false};
+ghost use Rattle.std.specs.Arc.{arc_value};
+ghost use Rattle.std.specs.List.{All};
+ghost use Rattle.tag_model.specs.Shape.{IsChecked};
+ghost use Rattle.tag_rule.specs.Shown.{CpuShown};
+ghost use Rattle.plant.specs.Fresh.{FitsShape, IsStarted};
+ghost use Rattle.plant.specs.Table.{IsNew};
+
+use crate::starting::{Started, deal};
+use std::alloc::{AllocError, Global};
+use std::marker::Model;
+use std::mem;
+use std::sync::Arc;
+use tag_model::Shape;
+use tag_rule::{CellPool, CpuSeat, ListSeat, LoadPass, Seats, make};
+use tag_section::Sections;
+use trace::Trace;
+
+/// The tokens of a table that no run has begun with, without those of the CPUs.
+#[derive(Drop)]
+pub(crate) struct Tokens {
+    pages: Vec<CellPool>,
+    objects: Vec<Vec<CellPool>>,
+    list: ListSeat,
+    loads: LoadPass,
+}
+
+/// A table with all that stands on it.
+#[derive(Drop)]
+pub struct Plant {
+    alloc: Global,
+    shape: Shape,
+    cpus: Vec<CpuSeat>,
+    // As long as no run has begun.
+    fresh: Option<Tokens>,
+}
+
+impl Model for Plant {
+    ghost use Rattle.std.specs.Prelude.{is_some};
+    ghost use Rattle.plant.specs.Table.{IsPlant, PlantShown};
+
+    ghost Value = { PlantShown };
+
+    ghost view = { λ plant. record { shape = plant.shape; fresh = is_some plant.fresh; cpus = plant.cpus.items } };
+
+    ghost invariant = { λ plant. IsPlant plant.shape plant.cpus plant.fresh };
+}
+
+impl Plant {
+    /// A fresh table of the shape: all words are 0, no cell holds anything, and nothing was loaded.
+    pub fn new(alloc: Global, shape: Shape) -> Result<Plant, AllocError>
+        requires { IsChecked shape }
+        ensures { IfOk result (IsNew shape) }
+    {
+        let Seats {
+            cpus,
+            pages,
+            objects,
+            list,
+            loads,
+        } = make(alloc, shape)?;
+        let tokens = Tokens {
+            pages,
+            objects,
+            list,
+            loads,
+        };
+        Ok(Plant {
+            alloc,
+            shape,
+            cpus,
+            fresh: Some(tokens),
+        })
+    }
+
+    /// Whether no run has begun.
+    pub fn is_fresh(&self) -> bool
+        ensures { result ≡ self.now.fresh }
+    {
+        self.fresh.is_some()
+    }
+
+    /// The shape that it was made of.
+    pub fn shape(&self) -> Shape
+        ensures { result ≡ self.now.shape }
+    {
+        self.shape
+    }
+
+    /// A run begins: all tokens go to it.
+    pub fn start(
+        &mut self,
+        trace: &Trace,
+        sections: Arc<Sections, Global>,
+    ) -> Result<Started, AllocError>
+        requires fresh { IsTrue self.old.fresh }
+        requires fits { FitsShape self.old.shape trace.now }
+        ensures started { IfOk result (IsStarted self.old.shape trace.now (arc_value sections)) }
+        ensures plant { self.new ≡ record self.old { fresh = false; cpus = [] } }
+    {
+        let fresh = self.fresh.take();
+        let cpus = mem::replace(&mut self.cpus, Vec::new(self.alloc));
+        let Tokens {
+            pages,
+            objects,
+            list,
+            loads,
+        } = fresh.unwrap();
+        let seats = Seats {
+            cpus,
+            pages,
+            objects,
+            list,
+            loads,
+        };
+        deal(self.alloc, self.shape, seats, trace, sections)
+    }
+}
