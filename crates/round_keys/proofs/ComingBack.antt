@@ -137,7 +137,8 @@ module _ (trace : Trace) (top : Option ℕ) (ops : List OnOp) (before after : Wa
   up : rises machine.live ≡ true
   up = (before_round trace top ops before formed round none).rise
 
-  low_cpus : All (λ on. on.cpu < length machine.seats) ops
+  -- each line is of a CPU that there is
+  pub low_cpus : All (λ on. on.cpu < length machine.seats) ops
   low_cpus =
       let items = subst (All (IsFormedItem trace.cpus trace.sections)) round.stands formed.items in
       let are : All (IsFormedOn trace.cpus trace.sections) ops = (all_behind (IsFormedItem trace.cpus trace.sections) round.front (item.Round ops) round.back items).0 in

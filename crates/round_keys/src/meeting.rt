@@ -31,8 +31,8 @@ impl KeyStore {
         }
     }
 
-    // The first key after one, or the first of all.
-    fn key_after(&self, last: Option<u32>) -> Option<u32>
+    /// The first key behind one, or the first of all.
+    pub fn key_after(&self, last: Option<u32>) -> Option<u32>
         ensures after { IfSome result (λ key. IsAfter last key) }
         ensures least { IfSome result (λ key. (other : ℕ) → IsAfter last other → IsSome (find nat_cmp other self.now) → key ≤ other) }
         ensures none { IfNone result ((other : ℕ) → IsAfter last other → find nat_cmp other self.now ≡ None) }

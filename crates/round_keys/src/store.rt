@@ -1,6 +1,6 @@
 //! The store of keys.
 
-ghost use Rattle.std.specs.Prelude.{◌≡◌, ◌==◌, [], IsTrue, OnErr, OnOk, not};
+ghost use Rattle.std.specs.Prelude.{◌≡◌, ◌==◌, [], IsTrue, OnErr, OnOk, not, option_map};
 ghost use Rattle.std.specs.FinMap.Entries.{find, is_sorted, put, where_key};
 ghost use Rattle.std.specs.Ordering.{nat_cmp};
 
@@ -32,6 +32,13 @@ impl KeyStore {
         KeyStore {
             kept: BTreeMap::new(alloc),
         }
+    }
+
+    /// What a key is bound to, if it is here.
+    pub fn get(&self, key: u32) -> Option<&Kept>
+        ensures { option_map (λ kept. kept.now) result ≡ find nat_cmp key self.now }
+    {
+        self.kept.get(&key)
     }
 
     // Takes a key out, with what it is bound to.
