@@ -1,8 +1,10 @@
 -- A table with all that stands on it.
-use Rattle.std.specs.Prelude.{◌≡◌, ⊤, Bool, true, Option, Some, None, List, Vec}
+use Rattle.std.specs.Prelude.{ℕ, ◌≡◌, ⊤, Bool, true, Option, Some, None, List, Vec, slice_index}
 use Rattle.std.specs.declared.alloc.Global.{Global}
 use Rattle.tag_model.specs.declared.shape.Shape.{Shape}
+use Rattle.tag_model.specs.declared.state.Kind.TheVariants.{Bytes, Calls}
 use Rattle.tag_model.specs.Shape.{IsChecked}
+use Rattle.tag_model.specs.WordState.{word_place}
 use Rattle.tag_rule.specs.Made.{AreFresh, fresh_seats}
 use Rattle.tag_rule.specs.Shown.{Board, CpuShown}
 use Rattle.plant.specs.declared.table.Tokens.{Tokens}
@@ -27,3 +29,9 @@ IsWhole k cpus (Some t) = AreFresh k (record { cpus = cpus; pages = t.pages; obj
 pub record IsPlant (k : Shape) (cpus : Vec CpuShown Global) (fresh : Option Tokens) : Type 0 where
   pub checked : IsChecked k
   pub whole : IsWhole k cpus fresh
+
+-- ---- words
+
+-- the bytes and the calls of a tag
+abbrev pub tag_words : ℕ → CpuShown → ℕ × ℕ
+tag_words tag cpu = (slice_index cpu.part.words (word_place Bytes tag), slice_index cpu.part.words (word_place Calls tag))

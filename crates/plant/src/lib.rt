@@ -4,6 +4,7 @@
 mod laws;
 mod starting;
 mod table;
+mod words;
 mod worker;
 
 pub use laws::workers_begin_as_the_meaning_does;

@@ -1,14 +1,14 @@
 //! A table with all that stands on it.
 
-ghost use Rattle.std.specs.Prelude.{◌≡◌, ◌<◌, [], IfOk, IsTrue, false};
+ghost use Rattle.std.specs.Prelude.{◌≡◌, ◌<◌, [], All, IfOk, IsTrue, Some, false, length, slice_get};
 ghost use Rattle.std.specs.Arc.{arc_value};
-ghost use Rattle.std.specs.List.{All};
 ghost use Rattle.tag_model.specs.Shape.{IsChecked};
 ghost use Rattle.tag_rule.specs.Shown.{CpuShown};
 ghost use Rattle.plant.specs.Fresh.{FitsShape, IsStarted};
-ghost use Rattle.plant.specs.Table.{IsNew};
+ghost use Rattle.plant.specs.Table.{IsNew, tag_words};
 
 use crate::starting::{Started, deal};
+use crate::words::words_at;
 use std::alloc::{AllocError, Global};
 use std::marker::Model;
 use std::mem;
@@ -116,5 +116,23 @@ impl Plant {
             loads,
         };
         deal(self.alloc, self.shape, seats, trace, sections)
+    }
+
+    /// The CPUs come back, as a run left them.
+    pub fn settle(&mut self, cpus: Vec<CpuSeat>)
+        requires { self.old.fresh ≡ false }
+        ensures { self.new ≡ record self.old { cpus = cpus.items } }
+    {
+        self.cpus = cpus;
+    }
+
+    /// The bytes and the calls of a tag in the words of a CPU.
+    pub fn cpu_word(&mut self, cpu: u32, tag: u32) -> (u64, u64)
+        requires cpu { cpu < length self.old.cpus }
+        requires tag { All (λ (c : CpuShown). tag < c.board.shape.tags) self.old.cpus }
+        ensures words { (c : CpuShown) → slice_get self.old.cpus cpu ≡ Some c → result ≡ tag_words tag c }
+        ensures same { self.new ≡ self.old }
+    {
+        words_at(&mut self.cpus, cpu as usize, tag)
     }
 }
