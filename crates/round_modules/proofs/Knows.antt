@@ -1,6 +1,9 @@
 -- What is known beside the book.
-use Rattle.std.proofs.Common.{◌≡◌, ℕ, suc, ◌<◌, ◌≤◌, ◌⊎◌, inr, Bool, true, false, cond, List, [], ◌∷◌, ◌++◌, length, get_or, map, take, drop, IsSomeAnd, Any, Contains, refl, sym, ap, ◌∙◌, subst, arith, ⊎_elim}
-use Rattle.std.proofs.lemmas.List.{get_or-map, length-map, map-append, take-append-drop}
+use Rattle.std.proofs.Common.{◌+◌, ◌≡◌, ℕ, suc, ◌<◌, ◌≤◌, ◌⊎◌, inr, Bool, true, false, cond, List, [], ◌∷◌, ◌++◌, length, get_or, map, take, drop, IsSomeAnd, Any, Contains, refl, sym, ap, ◌∙◌, subst, arith, ⊎_elim}
+use Rattle.std.specs.Prelude.{fold}
+use Rattle.std.proofs.lemmas.List.Sums.{fold-append}
+use Rattle.trace.specs.declared.traces.OnOp.{OnOp}
+use Rattle.std.proofs.lemmas.List.{get_or-map, length-map, map-append, take-append-drop, take_more}
 use Rattle.std.proofs.lemmas.List.Elements.{All-weaker, Contains-append_left}
 use Rattle.tag_model.specs.declared.state.Note.{Note}
 use Rattle.tag_model.specs.declared.state.Record.{Record}
@@ -15,7 +18,7 @@ use Rattle.core_list.specs.ListState.{record_of, run_of}
 use Rattle.trace.specs.declared.traces.TraceOp.{TraceOp}
 use Rattle.trace.specs.declared.traces.TraceOp.TheVariants as op
 use Rattle.round_modules.specs.Inside.{AreNoted, IsNoteOf, come_in, notes_in}
-use Rattle.round_modules.specs.Known.{AreLoadedIn, IsKnown, IsLoadedIn, unload_in}
+use Rattle.round_modules.specs.Known.{AreLoadedIn, IsKnown, IsLoadedIn, unload_in, unloaded_by}
 use Rattle.round_modules.proofs.Members.{Member, Rises, all_members, any_member, entry_is, here, later, map_from, map_has, member_any, member_cases, nobody}
 
 -- ---- unloads
@@ -42,6 +45,13 @@ unload_keeps book known op.Unhook h = h
 unload_keeps book known (op.Enter section) h = h
 unload_keeps book known (op.Leave section) h = h
 unload_keeps book known (op.Unload section) h = marked_known section book known h
+
+-- one more
+pub unloaded_more : (ops : List OnOp) (entries : List Entry) (i : ℕ) (d : OnOp) → i < length ops → unloaded_by (take (i + 1) ops) entries ≡ unload_in (unloaded_by (take i ops) entries) (get_or ops i d).op
+unloaded_more ops entries i d low =
+    ap (λ xs. unloaded_by xs entries) (take_more ops i d low)
+    ∙ ap (fold unload_in entries) (map-append (λ (on : OnOp). on.op) (take i ops) (get_or ops i d ∷ []))
+    ∙ fold-append unload_in entries (map (λ (on : OnOp). on.op) (take i ops)) ((get_or ops i d).op ∷ [])
 
 -- ---- entry by entry
 

@@ -14,9 +14,8 @@ pub fn unload_known(ops: &[OnOp], known: &mut [Entry])
     ensures marked { known.new ≡ unloaded_by ops.now known.old }
     ensures still { (book : List Entry) → IsKnown book known.old → IsKnown book known.new }
 {
-    if let Some((first, rest)) = ops.split_first() {
-        unload_one(first.op, known);
-        unload_known(rest, known);
+    for on in ops {
+        unload_one(on.op, known);
     }
 }
 
