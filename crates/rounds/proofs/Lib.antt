@@ -1,0 +1,7 @@
+mod Begun
+mod DeskDealt
+mod LoadsAt
+mod PrintsAt
+mod Settled
+mod TurnedDesk
+mod TurnedLanes

@@ -1,0 +1,3 @@
+pub mod TurnParts
+pub mod Turns
+pub mod Places
