@@ -1,5 +1,5 @@
 -- What an op leaves of a worker, from what its parts did.
-use Rattle.std.proofs.Common.{◌≡◌, ℕ, ◌+◌, ◌++◌, ◌≢◌, Bool, true, false, cond, not, T, eqb, List, [], ◌∷◌, Option, Some, None, nat_cmp, map, refl, sym, ap, ◌∙◌, subst, append_assoc, add-zero, ne_eqb, eq-eqb, zero, suc, length, ◌-◌, arith}
+use Rattle.std.proofs.Common.{◌≡◌, ℕ, ◌+◌, ◌++◌, ◌≢◌, Bool, true, false, not, T, eqb, List, [], ◌∷◌, Option, Some, None, nat_cmp, map, refl, sym, ap, ◌∙◌, subst, append_assoc, add-zero, ne_eqb, eq-eqb, zero, suc, length, ◌-◌, arith}
 use Rattle.std.specs.Prelude.{fold}
 use Rattle.std.specs.List.{range_with_len}
 use Rattle.std.proofs.lemmas.Nat.{pow_pos}
@@ -14,14 +14,12 @@ use Rattle.tag_model.specs.declared.state.Tag.{Tag}
 use Rattle.tag_model.specs.Moves.{Move}
 use Rattle.tag_model.specs.RefMoves.{reference_to, open_moves, close_moves, split_moves, trim_moves, trimmed}
 use Rattle.split_swap.specs.Parts.{parts_in}
-use Rattle.tag_rule.specs.Shown.{Board, CpuShown}
+use Rattle.tag_rule.specs.Shown.{CpuShown}
 use Rattle.tag_ref.specs.Refs.{moved_by}
-use Rattle.buddy.specs.Frames.{least_start}
-use Rattle.page_ext.specs.Blocks.{block_at, page_bytes, with_frames}
-use Rattle.page_ext.specs.Shown.{BlockShown, NodeShown, block_of}
+use Rattle.page_ext.specs.Blocks.{block_at, page_bytes}
+use Rattle.page_ext.specs.Shown.{BlockShown, NodeShown}
 use Rattle.page_ext.specs.Paging.{GivesBlock}
 use Rattle.module_area.specs.declared.entry.Entry.{Entry}
-use Rattle.slab_cache.specs.Slabs.{NodeState}
 use Rattle.slab_cache.specs.Storage as storage
 use Rattle.slab_cache.specs.Storage.{Storage, has_cell, home_of}
 use Rattle.slab_cache.specs.Giving.{Given, block_from, given_block, given_object}
@@ -36,11 +34,10 @@ use Rattle.trace_play.specs.Worker.{Tally}
 use Rattle.trace_play.specs.Alone.{joined}
 use Rattle.std.proofs.Math.Nat.{add_assoc}
 use Rattle.round_worker.specs.declared.keys.Kept.{Kept}
-use Rattle.round_worker.specs.declared.keys.Kept.TheVariants.{Nothing, Block, Object}
+use Rattle.round_worker.specs.declared.keys.Kept.TheVariants.{Nothing, Block}
 use Rattle.round_worker.specs.declared.worker.Going.{Going}
 use Rattle.round_worker.specs.Kept.{KeyList, content_of, exchanged, live_of}
 use Rattle.round_worker.specs.Shown.{Leaves, WorkerShown, at_start, with_state}
-use Rattle.slab_cache.specs.Calls.{Gives}
 use Rattle.slab_cache.specs.NodeLending.{with_node}
 use Rattle.slab_cache.specs.Shown.{IsNow, SlabNodeShown, Stands, state_of}
 use Rattle.round_worker.specs.Working.{going_storage, shown}

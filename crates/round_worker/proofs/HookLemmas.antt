@@ -1,9 +1,9 @@
 -- A task and the hooks that are out on it.
-use Rattle.std.proofs.Common.{◌≡◌, ℕ, ◌+◌, ◌-◌, List, [], ◌∷◌, map, length, Option, Some, None, refl, sym, ap, ◌∙◌, subst, arith, reverse, ◌++◌}
+use Rattle.std.proofs.Common.{◌≡◌, ◌+◌, ◌-◌, List, [], ◌∷◌, map, length, refl, sym, ap, ◌∙◌, subst, arith, reverse, ◌++◌}
 use Rattle.std.proofs.lemmas.List.{reverse-append}
 use Rattle.std.specs.Prelude.{slice_get, drop}
 use Rattle.tag_model.specs.declared.state.Tag.{Tag}
-use Rattle.current_tag.specs.Hooks.{Kept, TaskShown, hooked, kept_of, restored, unhooked}
+use Rattle.current_tag.specs.Hooks.{Kept, TaskShown, hooked, kept_of, restored}
 use Rattle.round_worker.specs.declared.hooks.Hook.{Hook}
 use Rattle.round_worker.specs.HooksOut.{AreHooks, tag_of}
 

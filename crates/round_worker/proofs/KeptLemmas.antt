@@ -1,5 +1,5 @@
 -- What the keys are bound to stays their own.
-use Rattle.std.proofs.Common.{◌≡◌, IfSome, ℕ, suc, ◌+◌, ◌-◌, ◌<◌, arith, replicate, Bool, true, false, cond, not, T, eqb, List, [], ◌∷◌, Option, Some, None, Result, Ok, Err, OnOk, OnErr, IfOk, nat_cmp, refl, sym, ap, ◌∙◌, subst, ⊎_elim}
+use Rattle.std.proofs.Common.{◌≡◌, IfSome, ℕ, suc, ◌+◌, ◌-◌, ◌<◌, arith, replicate, cond, not, eqb, Option, Some, None, Result, Ok, Err, OnOk, OnErr, nat_cmp, refl, sym, ap, ◌∙◌, subst, ⊎_elim}
 use Rattle.std.specs.Option.{unwrap_or}
 use Rattle.std.specs.FinMap.Entries.{find, put}
 use Rattle.std.proofs.lemmas.Bool.{cases_Bool, cond-true, cond-false}

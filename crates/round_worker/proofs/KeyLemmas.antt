@@ -1,5 +1,5 @@
 -- A map of keys is its entries by rising key.
-use Rattle.std.proofs.Common.{◌≡◌, ℕ, ◌≢◌, Bool, true, false, cond, not, T, eqb, List, [], ◌∷◌, map, Option, Some, None, nat_cmp, Less, Equal, Greater, refl, sym, ap, ◌∙◌, subst, ⊎_elim, eqb-true, ne_eqb, eq-eqb}
+use Rattle.std.proofs.Common.{◌≡◌, ℕ, ◌≢◌, Bool, true, false, cond, not, T, eqb, List, [], ◌∷◌, Option, Some, None, nat_cmp, Less, Equal, Greater, refl, sym, ap, ◌∙◌, subst, ⊎_elim, eqb-true, ne_eqb, eq-eqb}
 use Rattle.std.specs.Prelude.{option_map, ◌&&◌}
 use Rattle.std.specs.BTreeMap.{insert_entry, is_at}
 use Rattle.std.specs.Cmp.{unsigned_tied}

@@ -8,3 +8,4 @@ pub mod Splits
 pub mod Rounds
 pub mod TagLemmas
 pub mod Needs
+pub mod CountLemmas

@@ -1,12 +1,12 @@
 -- What the meaning says that an op finds is what the worker has at its keys.
-use Rattle.std.proofs.Common.{◌≡◌, ℕ, ◌<◌, Option, Some, None, nat_cmp, refl, sym, ap, ◌∙◌, subst, ◌≢◌, eqb, not, ne_eqb}
+use Rattle.std.proofs.Common.{◌≡◌, ℕ, Option, Some, None, nat_cmp, refl, sym, ap, ◌∙◌, subst, ◌≢◌, eqb, not, ne_eqb}
 use Rattle.std.proofs.lemmas.Bool.{cond-true}
 use Rattle.trace_play.proofs.Entries.{find_kept}
 use Rattle.std.specs.Prelude.{option_map, unwrap_or}
 use Rattle.std.specs.FinMap.Entries.{find}
 use Rattle.trace_play.specs.Live.{Content, content_at}
 use Rattle.trace_play.specs.Live as live
-use Rattle.trace_play.specs.Fits.{HasBlock, IsBlockOf, SplitFits, SwapFits, TrimFits, entry_at}
+use Rattle.trace_play.specs.Fits.{HasBlock, IsBlockOf, SplitFits, SwapFits, TrimFits}
 use Rattle.slab_cache.specs.Storage.{home_of}
 use Rattle.trace_play.specs.Worker.{Seat, WorkerState}
 use Rattle.trace_play.specs.Fitting.{IsOf, IsThere}

@@ -2,7 +2,7 @@
 use Rattle.std.proofs.Common.{◌≡◌, ℕ, ◌+◌, ◌<◌, ◌≤◌, ◌^◌, Bool, true, false, List, [], ◌∷◌, ◌++◌, Option, Some, None, drop, length, refl, sym, ap, ◌∙◌, subst, append-nil, add-zero, arith, suc, get_or, map}
 use Rattle.std.proofs.Math.Seq.{drop-cons}
 use Rattle.trace.specs.declared.traces.OnOp.{OnOp}
-use Rattle.std.specs.Prelude.{fold, ◌&&◌, if◌then◌else◌}
+use Rattle.std.specs.Prelude.{◌&&◌, if◌then◌else◌}
 use Rattle.std.specs.Bool.{IsTrue}
 use Rattle.std.specs.List.{list_all}
 use Rattle.tag_model.specs.Moves.{Move}

@@ -1,17 +1,14 @@
 -- A tag under which a CPU may count is one of the table's tags.
-use Rattle.std.proofs.Common.{◌≡◌, ℕ, ◌+◌, ◌<◌, ◌≤◌, ◌^◌, ◌==◌, Bool, true, false, cond, List, [], ◌∷◌, nat_lt, nat_le, refl, sym, ap, ◌∙◌, subst, arith, ⊎_elim, leb-true, ltb-true}
+use Rattle.std.proofs.Common.{◌+◌, ◌<◌, ◌^◌, ◌==◌, List, [], ◌∷◌, nat_lt, sym, ap, ◌∙◌, arith, ⊎_elim, leb-true, ltb-true}
 use Rattle.page_ext.proofs.Cells.{range_high}
 use Rattle.trace_play.proofs.AloneLemmas.{both_true}
 use Rattle.std.specs.Prelude.{◌&&◌, ◌||◌}
 use Rattle.std.specs.Bool.{IsTrue}
 use Rattle.std.specs.List.{list_all, list_any}
 use Rattle.std.proofs.lemmas.Bool.{cases_Bool, cond-true, cond-false}
-use Rattle.tag_model.specs.declared.limits.TheConstants.{MAX_TAGS}
 use Rattle.tag_model.specs.declared.shape.Shape.{Shape}
 use Rattle.tag_model.specs.declared.state.Run.{Run}
 use Rattle.tag_model.specs.declared.state.Tag.{Tag}
-use Rattle.tag_model.specs.Shape.{IsChecked}
-use Rattle.tag_model.specs.StepRules.{may_begin}
 use Rattle.tag_model.specs.WordState.{in_range}
 use Rattle.tag_rule.specs.Seated.{IsCpuShown, run_in_tags}
 use Rattle.tag_rule.specs.Shown.{CpuShown}

@@ -23,9 +23,10 @@ abbrev pub IsGoing : Board → Going → Type 0
 IsGoing board (Block block) = block.cell.board ≡ board
 IsGoing board (Object stored) = IsOfTable board (cell_of stored)
 
--- the node stands, few hooks are out, and all cells are of the node's table
-pub record IsWorker (node : SlabNodeShown) (hooks : List Tag) (keys : KeyList) (returning : List Going) : Type 0 where
+-- the node stands and has so many frames, few hooks are out, and all cells are of the node's table
+pub record IsWorker (frames : ℕ) (node : SlabNodeShown) (hooks : List Tag) (keys : KeyList) (returning : List Going) : Type 0 where
   pub stands : Stands node
+  pub frames_are : length node.slabs ≡ frames
   pub few : length hooks ≤ 16
   pub kept : AreKept node.node.board keys
   pub going : All (IsGoing node.node.board) returning

@@ -2,6 +2,7 @@
 #![tactic(auto)]
 
 mod changing;
+mod counting;
 mod freeing;
 mod giving;
 mod homing;

@@ -34,6 +34,8 @@ pub enum Going {
 pub struct Worker {
     pub(crate) alloc: Global,
     pub(crate) node: SlabNode,
+    // How many frames the node has.
+    pub(crate) frames: u32,
     pub(crate) hooks: Hooks,
     pub(crate) keys: Keys,
     pub(crate) returning: Vec<Going>,
@@ -52,7 +54,7 @@ impl Model for Worker {
 
     ghost view = { λ worker. shown worker.node worker.hooks worker.keys worker.returning.items worker.entries.items worker.failed worker.uncounted };
 
-    ghost invariant = { λ worker. IsWorker worker.node worker.hooks worker.keys worker.returning.items };
+    ghost invariant = { λ worker. IsWorker worker.frames worker.node worker.hooks worker.keys worker.returning.items };
 }
 
 impl Worker {
@@ -61,9 +63,12 @@ impl Worker {
         requires { Stands node }
         ensures { IfOk result (λ worker. worker ≡ shown node [] [] [] [] 0 0) }
     {
+        let mut node = node;
+        let frames = node.node_mut().frames();
         Ok(Worker {
             alloc,
             node,
+            frames,
             hooks: Hooks::new(alloc)?,
             keys: Keys::new(alloc),
             returning: Vec::new(alloc),

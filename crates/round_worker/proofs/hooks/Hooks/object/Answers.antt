@@ -1,4 +1,4 @@
-use Rattle.std.proofs.Common.{◌≡◌, List, IfOk, Option, ap, length, reverse, slice_get, subst, sym, ◌∙◌, arith}
+use Rattle.std.proofs.Common.{List, IfOk, Option, ap, length, reverse, slice_get, subst, sym, ◌∙◌, arith}
 use Rattle.tag_model.specs.declared.state.Tag.{Tag}
 use Rattle.page_ext.specs.Paging.{MayCount}
 use Rattle.slab_cache.specs.Giving.{given_object}

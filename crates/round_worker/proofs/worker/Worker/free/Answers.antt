@@ -1,10 +1,9 @@
-use Rattle.std.proofs.Common.{◌≡◌, OnOk, Option, Some, None, ap, refl, subst, sym, ◌∙◌}
-use Rattle.tag_rule.specs.Shown.{Board}
+use Rattle.std.proofs.Common.{OnOk, refl, subst, sym, ◌∙◌}
 use Rattle.trace.specs.declared.traces.TraceOp.TheVariants as op
-use Rattle.trace_play.specs.Live.{Content, Live}
+use Rattle.trace_play.specs.Live.{Content}
 use Rattle.trace_play.specs.Fitting.{FreeFits, IsThere}
 use Rattle.trace_play.specs.Worker.{done}
-use Rattle.round_worker.specs.Kept.{IsKept, content_of}
+use Rattle.round_worker.specs.Kept.{content_of}
 use Rattle.round_worker.specs.Shown.{Leaves, Ready, WorkerShown, at_start}
 use Rattle.round_worker.specs.Working.{shown}
 use Rattle.round_worker.proofs.KeptLemmas.{on_ok}
@@ -16,12 +15,12 @@ use Rattle.round_worker.proofs.worker.Worker.free.Goals as goal
 pub invariant_of-self : goal.invariant_of-self
 invariant_of-self c =
     let me = c.self.inside in
-    take_keeps me.node me.hooks me.keys me.returning.items c.self.invariant c.take.new.self c.args.key c.take.ensures.keys
+    take_keeps me.frames me.node me.hooks me.keys me.returning.items c.self.invariant c.take.new.self c.args.key c.take.ensures.keys
 
 pub invariant_of-self-in-None : goal.invariant_of-self-in-None
 invariant_of-self-in-None c =
     let me = c.self.inside in
-    take_keeps me.node me.hooks me.keys me.returning.items c.self.invariant c.take.new.self c.args.key c.take.ensures.keys
+    take_keeps me.frames me.node me.hooks me.keys me.returning.items c.self.invariant c.take.new.self c.args.key c.take.ensures.keys
 
 pub free_kept-requires-clause-own : goal.free_kept-requires-clause-own
 free_kept-requires-clause-own c = c.self.invariant.kept c.args.key c.in-Some.kept (sym (sym c.in-Some.is ∙ c.take.ensures.value))

@@ -10,7 +10,7 @@ use Rattle.round_worker.proofs.worker.Worker.give_nothing.Goals as goal
 
 pub invariant_of-self : goal.invariant_of-self
 invariant_of-self c =
-    put_keeps c.self.inside.node c.self.inside.hooks c.self.inside.keys c.self.inside.returning.items c.self.invariant
+    put_keeps c.self.inside.frames c.self.inside.node c.self.inside.hooks c.self.inside.keys c.self.inside.returning.items c.self.invariant
     c.put.result c.put.new.self c.args.key (Nothing c.args.order) c.put.ensures.put c.put.ensures.err c.requires.small
 
 pub returns : goal.returns

@@ -15,7 +15,7 @@ pub invariant_of-self : goal.invariant_of-self
 invariant_of-self c =
     let me = c.self.inside in
     let kept = subst (λ (w : WorkerShown). IsKeptObject w.board c.args.obj.stored) (sym c.self.view_is) c.requires.kept in
-    put_keeps me.node me.hooks me.keys me.returning.items c.self.invariant c.put.result c.put.new.self c.args.key c.kept_object-kept.result c.put.ensures.put c.put.ensures.err
+    put_keeps me.frames me.node me.hooks me.keys me.returning.items c.self.invariant c.put.result c.put.new.self c.args.key c.kept_object-kept.result c.put.ensures.put c.put.ensures.err
     (c.kept_object-kept.ensures.kept me.node.node.board kept)
 
 pub returns : goal.returns

@@ -1,9 +1,12 @@
-use Rattle.std.proofs.Common.{◌≡◌, Option, slice_get, subst, sym, ◌∙◌}
+use Rattle.std.proofs.Common.{List, slice_get, subst, sym, ◌∙◌}
+use Rattle.tag_model.specs.declared.state.Tag.{Tag}
 use Rattle.tag_rule.specs.Shown.{Board}
 use Rattle.slab_cache.specs.Shown.{IsOfTable, cell_of, state_of}
 use Rattle.round_worker.specs.Shown.{Ready, WorkerShown}
+use Rattle.round_worker.specs.Working.{IsWorker}
+use Rattle.round_worker.proofs.CountLemmas.{given_long, long_now}
 use Rattle.round_worker.proofs.Given.{given_live}
-use Rattle.round_worker.proofs.Keeps.{may_count_current}
+use Rattle.round_worker.proofs.Keeps.{may_count_current, node_keeps}
 use Rattle.round_worker.proofs.worker.Worker.kmalloc.Goals as goal
 
 pub object-requires-clause-allowed : goal.object-requires-clause-allowed
@@ -20,3 +23,11 @@ give_object-requires-clause-kept c =
       g.suits,
       given_live (slice_get me.hooks 0) (state_of me.node) c.args.size g.given c.in-Ok.obj.stored g.is g.object,
     )
+
+pub invariant_of-self : goal.invariant_of-self
+invariant_of-self c =
+    let me = c.self.inside in
+    let g = c.in-Ok.ensures.gives in
+    let long = long_now g.given.node me.node c.object.new.node g.becomes (given_long (slice_get me.hooks 0) (state_of me.node) c.args.size g.given g.is) in
+    subst (λ (hooks : List Tag). IsWorker me.frames c.object.new.node hooks me.keys me.returning.items) (sym c.object.ensures.hooks)
+    (node_keeps me.frames me.node me.hooks me.keys me.returning.items c.self.invariant c.object.new.node g.becomes.board g.becomes.stands long)

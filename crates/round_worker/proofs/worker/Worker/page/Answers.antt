@@ -23,7 +23,7 @@ invariant_of-self c =
     let ready = subst (λ (w : WorkerShown). Ready w c.args.cpu.now) (sym c.self.view_is) c.requires.ready in
     let gives : GivesBlock c.task.result.now.current c.args.order me.node.node c.alloc_pages.new.node c.args.cpu.now c.alloc_pages.new.cpu c.in-Ok.block =
     subst (λ (n : NodeShown). GivesBlock c.task.result.now.current c.args.order n c.alloc_pages.new.node c.args.cpu.now c.alloc_pages.new.cpu c.in-Ok.block) c.node_mut.ensures.value c.in-Ok.ensures.gives in
-    page_keeps me.node me.hooks me.keys me.returning.items c.self.invariant c.put.result c.task.result.now.current c.args.order c.args.key c.in-Ok.block c.alloc_pages.new.node c.put.new.self
+    page_keeps me.frames me.node me.hooks me.keys me.returning.items c.self.invariant c.put.result c.task.result.now.current c.args.order c.args.key c.in-Ok.block c.alloc_pages.new.node c.put.new.self
     c.args.cpu.now c.alloc_pages.new.cpu ready.table gives c.put.ensures.put c.put.ensures.err
 
 pub returns-in-Ok : goal.returns-in-Ok

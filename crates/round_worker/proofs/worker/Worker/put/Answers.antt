@@ -13,7 +13,7 @@ pub invariant_of-self : goal.invariant_of-self
 invariant_of-self c =
     let me = c.self.inside in
     let own = subst (λ (w : WorkerShown). IsKept w.board c.args.kept) (sym c.self.view_is) c.requires in
-    put_keeps me.node me.hooks me.keys me.returning.items c.self.invariant c.put.result c.put.new.self c.args.key c.args.kept c.put.ensures.put c.put.ensures.err own
+    put_keeps me.frames me.node me.hooks me.keys me.returning.items c.self.invariant c.put.result c.put.new.self c.args.key c.args.kept c.put.ensures.put c.put.ensures.err own
 
 pub returns : goal.returns
 returns c =

@@ -21,13 +21,13 @@ pub invariant_of-self : goal.invariant_of-self
 invariant_of-self c =
     let me = c.self.inside in
     let ready = subst (λ (w : WorkerShown). Ready w c.args.cpu.now) (sym c.self.view_is) c.requires.ready in
-    let taken = take_keeps me.node me.hooks me.keys me.returning.items c.self.invariant c.take.new.self c.args.key c.take.ensures.keys in
-    with_keys me.node me.hooks me.keys me.returning.items c.self.invariant c.split_kept.new.keys (c.split_kept.ensures.kept me.node.node.board (sym ready.table) taken.kept)
+    let taken = take_keeps me.frames me.node me.hooks me.keys me.returning.items c.self.invariant c.take.new.self c.args.key c.take.ensures.keys in
+    with_keys me.frames me.node me.hooks me.keys me.returning.items c.self.invariant c.split_kept.new.keys (c.split_kept.ensures.kept me.node.node.board (sym ready.table) taken.kept)
 
 pub invariant_of-self-in-None : goal.invariant_of-self-in-None
 invariant_of-self-in-None c =
     let me = c.self.inside in
-    take_keeps me.node me.hooks me.keys me.returning.items c.self.invariant c.take.new.self c.args.key c.take.ensures.keys
+    take_keeps me.frames me.node me.hooks me.keys me.returning.items c.self.invariant c.take.new.self c.args.key c.take.ensures.keys
 
 pub returns-in-Some : goal.returns-in-Some
 returns-in-Some c =

@@ -16,7 +16,7 @@ use Rattle.round_worker.proofs.worker.Worker.swap.Goals as goal
 pub invariant_of-self : goal.invariant_of-self
 invariant_of-self c =
     let me = c.self.inside in
-    take_keeps me.node me.hooks me.keys me.returning.items c.self.invariant c.take.new.self c.args.one c.take.ensures.keys
+    take_keeps me.frames me.node me.hooks me.keys me.returning.items c.self.invariant c.take.new.self c.args.one c.take.ensures.keys
 
 pub returns-in_default : goal.returns-in_default
 returns-in_default c =
@@ -26,8 +26,8 @@ returns-in_default c =
 pub invariant_of-self-in_default-take : goal.invariant_of-self-in_default-take
 invariant_of-self-in_default-take c =
     let me = c.self.inside in
-    take_keeps me.node me.hooks c.take.new.self me.returning.items
-    (take_keeps me.node me.hooks me.keys me.returning.items c.self.invariant c.take.new.self c.args.one c.take.ensures.keys)
+    take_keeps me.frames me.node me.hooks c.take.new.self me.returning.items
+    (take_keeps me.frames me.node me.hooks me.keys me.returning.items c.self.invariant c.take.new.self c.args.one c.take.ensures.keys)
     c.take-2.new.self c.args.two c.take-2.ensures.keys
 
 pub returns-in_default-take : goal.returns-in_default-take
@@ -55,22 +55,22 @@ pub invariant_of-self-in_err-put : goal.invariant_of-self-in_err-put
 invariant_of-self-in_err-put c =
     let me = c.self.inside in
     let ready = subst (λ (w : WorkerShown). Ready w c.args.cpu.now) (sym c.self.view_is) c.requires.ready in
-    let taken = take_keeps me.node me.hooks c.take.new.self me.returning.items
-    (take_keeps me.node me.hooks me.keys me.returning.items c.self.invariant c.take.new.self c.args.one c.take.ensures.keys)
+    let taken = take_keeps me.frames me.node me.hooks c.take.new.self me.returning.items
+    (take_keeps me.frames me.node me.hooks me.keys me.returning.items c.self.invariant c.take.new.self c.args.one c.take.ensures.keys)
     c.take-2.new.self c.args.two c.take-2.ensures.keys in
-    put_keeps me.node me.hooks c.take-2.new.self me.returning.items taken c.put.result c.put.new.self c.args.two c.exchanged-first.result.1 c.put.ensures.put c.put.ensures.err
+    put_keeps me.frames me.node me.hooks c.take-2.new.self me.returning.items taken c.put.result c.put.new.self c.args.two c.exchanged-first.result.1 c.put.ensures.put c.put.ensures.err
     (subst (λ (b : Board). IsKept b c.exchanged-first.result.1) (sym ready.table) c.exchanged-first.ensures.own.1)
 
 pub invariant_of-self-2 : goal.invariant_of-self-2
 invariant_of-self-2 c =
     let me = c.self.inside in
     let ready = subst (λ (w : WorkerShown). Ready w c.args.cpu.now) (sym c.self.view_is) c.requires.ready in
-    let taken = take_keeps me.node me.hooks c.take.new.self me.returning.items
-    (take_keeps me.node me.hooks me.keys me.returning.items c.self.invariant c.take.new.self c.args.one c.take.ensures.keys)
+    let taken = take_keeps me.frames me.node me.hooks c.take.new.self me.returning.items
+    (take_keeps me.frames me.node me.hooks me.keys me.returning.items c.self.invariant c.take.new.self c.args.one c.take.ensures.keys)
     c.take-2.new.self c.args.two c.take-2.ensures.keys in
-    let one_put = put_keeps me.node me.hooks c.take-2.new.self me.returning.items taken c.put.result c.put.new.self c.args.two c.exchanged-first.result.1 c.put.ensures.put c.put.ensures.err
+    let one_put = put_keeps me.frames me.node me.hooks c.take-2.new.self me.returning.items taken c.put.result c.put.new.self c.args.two c.exchanged-first.result.1 c.put.ensures.put c.put.ensures.err
     (subst (λ (b : Board). IsKept b c.exchanged-first.result.1) (sym ready.table) c.exchanged-first.ensures.own.1) in
-    put_keeps me.node me.hooks c.put.new.self me.returning.items one_put c.put-2.result c.put-2.new.self c.args.one c.exchanged-first.result.0 c.put-2.ensures.put c.put-2.ensures.err
+    put_keeps me.frames me.node me.hooks c.put.new.self me.returning.items one_put c.put-2.result c.put-2.new.self c.args.one c.exchanged-first.result.0 c.put-2.ensures.put c.put-2.ensures.err
     (subst (λ (b : Board). IsKept b c.exchanged-first.result.0) (sym ready.table) c.exchanged-first.ensures.own.0)
 
 pub returns : goal.returns

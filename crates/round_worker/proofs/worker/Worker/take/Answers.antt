@@ -14,7 +14,7 @@ use Rattle.round_worker.proofs.worker.Worker.take.Goals as goal
 pub invariant_of-self : goal.invariant_of-self
 invariant_of-self c =
     let me = c.self.inside in
-    take_keeps me.node me.hooks me.keys me.returning.items c.self.invariant c.take.new.self c.args.key c.take.ensures.keys
+    take_keeps me.frames me.node me.hooks me.keys me.returning.items c.self.invariant c.take.new.self c.args.key c.take.ensures.keys
 
 pub returns-clause-content : goal.returns-clause-content
 returns-clause-content c = ap (option_map content_of) c.take.ensures.value ∙ sym (live_find c.args.key c.self.inside.keys) ∙ ap (λ (w : WorkerShown). entry_at c.args.key w.live) c.self.view_is

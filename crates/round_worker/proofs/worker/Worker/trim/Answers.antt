@@ -32,14 +32,14 @@ invariant_of-self c =
     let me = c.self.inside in
     let ready = subst (λ (w : WorkerShown). Ready w c.args.cpu.now) (sym c.self.view_is) c.requires.ready in
     let own = subst (λ (b : Board). IsKept b c.trimmed-kept.result) (sym ready.table) c.trimmed-kept.ensures.own in
-    put_keeps me.node me.hooks c.take.new.self me.returning.items
-    (take_keeps me.node me.hooks me.keys me.returning.items c.self.invariant c.take.new.self c.args.key c.take.ensures.keys)
+    put_keeps me.frames me.node me.hooks c.take.new.self me.returning.items
+    (take_keeps me.frames me.node me.hooks me.keys me.returning.items c.self.invariant c.take.new.self c.args.key c.take.ensures.keys)
     c.put.result c.put.new.self c.args.key c.trimmed-kept.result c.put.ensures.put c.put.ensures.err own
 
 pub invariant_of-self-in-None : goal.invariant_of-self-in-None
 invariant_of-self-in-None c =
     let me = c.self.inside in
-    take_keeps me.node me.hooks me.keys me.returning.items c.self.invariant c.take.new.self c.args.key c.take.ensures.keys
+    take_keeps me.frames me.node me.hooks me.keys me.returning.items c.self.invariant c.take.new.self c.args.key c.take.ensures.keys
 
 pub returns-in-Some : goal.returns-in-Some
 returns-in-Some c =
