@@ -1,5 +1,6 @@
 mod Begun
 mod DeskDealt
+mod EndNumbers
 mod LoadsAt
 mod PrintsAt
 mod Settled

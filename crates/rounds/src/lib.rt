@@ -4,6 +4,7 @@
 mod beginning;
 mod dealing;
 mod desk;
+mod ending;
 mod loading;
 mod printing;
 mod settling;

@@ -100,7 +100,7 @@ fn has_dead(known: &[Entry]) -> bool
     known.iter().any(|entry| is_dead(entry.state))
 }
 
-fn is_dead(state: State) -> bool
+pub(crate) fn is_dead(state: State) -> bool
     ensures { result ≡ is_dead state }
 {
     match state {
