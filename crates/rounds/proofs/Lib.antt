@@ -1,7 +1,7 @@
 mod Begun
 mod DeskDealt
 mod EndNumbers
-mod LoadsAt
+pub mod LoadsAt
 mod PrintsAt
 mod Settled
 mod TurnedDesk

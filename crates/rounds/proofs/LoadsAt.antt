@@ -44,7 +44,7 @@ unfolding load_module
 loaded_told walk section = checked (λ (next : Walk). is_loaded walk section ≡ false) (not (module_at walk section).loaded) (code.AlreadyLoaded section) _ (λ none. not_true _ none)
 
 -- the first items of those that passed
-front_walk : (front back : List Item) (walk end : Walk) → walk_items (front ++ back) walk ≡ Ok end → (mid : Walk) × (walk_items front walk ≡ Ok mid)
+pub front_walk : (front back : List Item) (walk end : Walk) → walk_items (front ++ back) walk ≡ Ok end → (mid : Walk) × (walk_items front walk ≡ Ok mid)
 front_walk [] back walk end e = (walk, refl)
 front_walk (what ∷ front) back walk end e =
     let first = bind_ok (walk_item what walk) (λ next. walk_items (front ++ back) next) end e in

@@ -59,7 +59,7 @@ module _ (b : Board) (m : Machine) (kind : Kind) (t : ℕ) where
   abbrev word_at : ℕ → ℕ
   word_at n = word_in kind t (standing_cpu b m n)
 
-  moved_at : t < b.shape.tags → (n : ℕ) → word_at n ≡ moved_word m.tally.moves n kind t
+  pub moved_at : t < b.shape.tags → (n : ℕ) → word_at n ≡ moved_word m.tally.moves n kind t
   moved_at low n =
       follows n b.shape.tags (replicate (2 * b.shape.tags) 0) [] m.tally.moves (length-replicate {A = ℕ} (2 * b.shape.tags) 0) (λ k tag below. zero_word (2 * b.shape.tags) (word_place k tag)) kind t low
 
