@@ -1,2 +1,4 @@
+pub mod Commands
+pub mod Running
 pub mod Serving
 pub mod Spelling

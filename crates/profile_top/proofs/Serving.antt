@@ -5,7 +5,11 @@ use Rattle.profile_top.specs.declared.answer.Answer.{Answer}
 use Rattle.outside.specs.Bytes.{Took}
 use Rattle.outside.specs.declared.faults.ReadError.TheVariants.{TooLong}
 use Rattle.profile_top.specs.declared.mode.Mode.{Mode}
-use Rattle.profile_top.specs.Answers.{Gives, answer_of, answer_in, input_limit, too_long}
+use Rattle.profile_top.specs.Answers.{Gives, Written, answer_of, answer_in, input_limit, too_long}
+
+-- what is written for an input, by what is written for one that isn't too long
+abbrev pub limited : (List ℕ → Written) → List ℕ → Written
+limited short input = if nat_lt input_limit (length input) then too_long else short input
 
 at_least : (new : Option (List ℕ)) (input bytes : List ℕ) → Consumes (Some input) new bytes → length bytes ≤ length input
 at_least None input bytes none = absurd none
@@ -13,25 +17,31 @@ at_least (Some rest) input bytes is = let parts : length (bytes ++ rest) ≡ len
     let whole : length input ≡ length (bytes ++ rest) = ap (λ (l : List ℕ). length l) is in
     omega (arith, parts, whole)
 
-pub long_answer : (mode : Mode) (input : List ℕ) → input_limit < length input → answer_of mode input ≡ too_long
-long_answer mode input h = let long : nat_lt input_limit (length input) ≡ true = lt-ltb input_limit (length input) h in
-    ap (λ (b : Bool). if b then too_long else answer_in mode input) long
+pub long_answer : (short : List ℕ → Written) (input : List ℕ) → input_limit < length input → limited short input ≡ too_long
+long_answer short input h = let long : nat_lt input_limit (length input) ≡ true = lt-ltb input_limit (length input) h in
+    ap (λ (b : Bool). if b then too_long else short input) long
 
-pub too_long_is : (old new : Option (List ℕ)) → Took input_limit TooLong old new → (mode : Mode) (input : List ℕ) → old ≡ Some input → answer_of mode input ≡ too_long
-too_long_is old new took mode input e = let taken : Consumes (Some input) new took.bytes = subst (λ (o : Option (List ℕ)). Consumes o new took.bytes) e took.taken in
+pub short_answer : (short : List ℕ → Written) (input : List ℕ) → length input ≤ input_limit → limited short input ≡ short input
+short_answer short input h = let within : nat_lt input_limit (length input) ≡ false = le-ltb input_limit (length input) h in
+    ap (λ (b : Bool). if b then too_long else short input) within
+
+-- an input of which more was taken than is read is too long
+pub took_too_much : (old new : Option (List ℕ)) → Took input_limit TooLong old new → (input : List ℕ) → old ≡ Some input → input_limit < length input
+took_too_much old new took input e =
+    let taken : Consumes (Some input) new took.bytes = subst (λ (o : Option (List ℕ)). Consumes o new took.bytes) e took.taken in
     let many : length took.bytes ≤ length input = at_least new input took.bytes taken in
     let amount : length took.bytes ≡ input_limit + 1 = took.amount in
-    long_answer mode input (omega (arith, many, amount))
+    omega (arith, many, amount)
 
 pub decided_long : (old new taken taken_after : Option (List ℕ)) (status : ℕ) → Took input_limit TooLong old new
     → (status ≢ 5 → (status ≡ 1) × Appends taken taken_after too_long.text)
-    → (mode : Mode) (input : List ℕ) → old ≡ Some input → status < 2 → (status ≡ (answer_of mode input).status) × Appends taken taken_after (answer_of mode input).text
-decided_long old new taken taken_after status took whole mode input e below =
+    → (short : List ℕ → Written) (input : List ℕ) → old ≡ Some input → status < 2 → (status ≡ (limited short input).status) × Appends taken taken_after (limited short input).text
+decided_long old new taken taken_after status took whole short input e below =
     let not_five : status ≢ 5 = λ five. omega (arith, five) in
-    rw (too_long_is old new took mode input e) (whole not_five)
+    rw (long_answer short input (took_too_much old new took input e)) (whole not_five)
 
 -- what was read to the end is all that was there
-all_read : (old new : Option (List ℕ)) (read input : List ℕ) → Consumes old new read → IsAtEnd new → old ≡ Some input → read ≡ input
+pub all_read : (old new : Option (List ℕ)) (read input : List ℕ) → Consumes old new read → IsAtEnd new → old ≡ Some input → read ≡ input
 all_read None new read input is end e = cc
 all_read (Some whole) None read input is end e = absurd is
 all_read (Some whole) (Some rest) read input is end e =
@@ -39,18 +49,21 @@ all_read (Some whole) (Some rest) read input is end e =
     let all : whole ≡ read = is ∙ ap (λ (l : List ℕ). read ++ l) end ∙ append-nil read in
     sym all ∙ same
 
-pub short_answer : (mode : Mode) (input : List ℕ) → length input ≤ input_limit → answer_of mode input ≡ answer_in mode input
-short_answer mode input h = let short : nat_lt input_limit (length input) ≡ false = le-ltb input_limit (length input) h in
-    ap (λ (b : Bool). if b then too_long else answer_in mode input) short
-
-pub decided_read : (old new taken taken_after : Option (List ℕ)) (read : List ℕ) (status : ℕ) (answer : Answer) (words : Option Mode) (asked : Mode) → Consumes old new read → IsAtEnd new → length read ≤ input_limit
-    → words ≡ Some asked → Gives answer (answer_in asked read) → (status ≢ 5 → (status ≡ answer.status) × Appends taken taken_after answer.text.items)
-    → (mode : Mode) (input : List ℕ) → words ≡ Some mode → old ≡ Some input → status < 2 → (status ≡ (answer_of mode input).status) × Appends taken taken_after (answer_of mode input).text
-decided_read old new taken taken_after read status answer words asked consumes end within is_asked gives whole mode input is_mode e below =
+pub decided_read : (old new taken taken_after : Option (List ℕ)) (read : List ℕ) (status : ℕ) (answer : Answer) (short : List ℕ → Written) → Consumes old new read → IsAtEnd new → length read ≤ input_limit
+    → Gives answer (short read) → (status ≢ 5 → (status ≡ answer.status) × Appends taken taken_after answer.text.items)
+    → (input : List ℕ) → old ≡ Some input → status < 2 → (status ≡ (limited short input).status) × Appends taken taken_after (limited short input).text
+decided_read old new taken taken_after read status answer short consumes end within gives whole input e below =
     let not_five : status ≢ 5 = λ five. omega (arith, five) in
     let same : read ≡ input = all_read old new read input consumes end e in
-    let one : Some asked ≡ Some mode = sym is_asked ∙ is_mode in
-    let modes : asked ≡ mode = cc in
-    let answered : answer_of mode input ≡ answer_in asked read = ap (answer_of mode) (sym same) ∙ short_answer mode read within ∙ ap (λ (m : Mode). answer_in m read) (sym modes) in
+    let answered : limited short input ≡ short read = ap (limited short) (sym same) ∙ short_answer short read within in
     let w = whole not_five in
     rw answered (w.0 ∙ gives.status, subst (Appends taken taken_after) gives.text w.1)
+
+-- the same of the mode that was asked for
+pub decided_mode : (old new taken taken_after : Option (List ℕ)) (read : List ℕ) (status : ℕ) (answer : Answer) (words : Option Mode) (asked : Mode) → Consumes old new read → IsAtEnd new → length read ≤ input_limit
+    → words ≡ Some asked → Gives answer (answer_in asked read) → (status ≢ 5 → (status ≡ answer.status) × Appends taken taken_after answer.text.items)
+    → (mode : Mode) (input : List ℕ) → words ≡ Some mode → old ≡ Some input → status < 2 → (status ≡ (answer_of mode input).status) × Appends taken taken_after (answer_of mode input).text
+decided_mode old new taken taken_after read status answer words asked consumes end within is_asked gives whole mode input is_mode e below =
+    let one : Some asked ≡ Some mode = sym is_asked ∙ is_mode in
+    let modes : asked ≡ mode = cc in
+    decided_read old new taken taken_after read status answer (answer_in mode) consumes end within (subst (λ (m : Mode). Gives answer (answer_in m read)) modes gives) whole input e below

@@ -2,6 +2,8 @@
 use Rattle.std.proofs.Common.{◌≡◌, ◌≢◌, ℕ, ◌<◌, ◌≤◌, List, [], ◌∷◌, ap, sym, ◌∙◌, refl, subst, Option, Some, Bool, true, false, codes, Result, Ok, Err, length}
 use Rattle.std.specs.Prelude.{⊤, MatchResult, if◌then◌else◌}
 use Rattle.std.specs.Cmp.Lexicographic.{bytes_decides}
+use Rattle.std.specs.Io.KnownBytes.{Appends}
+use Rattle.outside.specs.Bytes.{AppendsPrefix}
 use Rattle.std.specs.Str.{bytes_eq}
 use Rattle.tag_section.specs.Section.{names_of}
 use Rattle.text_form.specs.Lines.{lines_of}
@@ -17,9 +19,9 @@ use Rattle.info_read.specs.Reading.{rows_of}
 use Rattle.info_group.specs.Grouping.{groups_of}
 use Rattle.info_group.specs.Text.{groups_text}
 use Rattle.profile_top.specs.declared.mode.Mode.{Mode}
-use Rattle.profile_top.specs.Answers.{Served, ServedInPart, Written, answer_in, answer_of, checked, first_of, grouped, is_schedule, played, rounds_checked, step_read, steps_checked, trace_checked, refusal_text, ok_text, info_refusal_text, input_limit}
+use Rattle.profile_top.specs.Answers.{IsInput, Served, ServedInPart, Written, answer_in, checked, first_of, grouped, is_schedule, played, rounds_checked, step_read, steps_checked, trace_checked, refusal_text, ok_text, info_refusal_text}
 use Rattle.profile_top.specs.Spelled.{ServedBy, SentInPart, Accepts, Refuses, IsWell, StepSays, CheckSays, GroupsSay}
-use Rattle.profile_top.proofs.Serving.{long_answer, short_answer}
+use Rattle.profile_top.proofs.Serving.{limited, long_answer, short_answer}
 
 -- ---- each command
 
@@ -88,29 +90,42 @@ groups_say key input status text s t = rows_say key (rows_of input) status text 
 
 -- ---- what is served
 
-pub spelled : (mode : Mode) (says : List ℕ → ℕ → List ℕ → Type 0) → ((input : List ℕ) (status : ℕ) (text : List ℕ) → status ≡ (answer_in mode input).status → text ≡ (answer_in mode input).text → says input status text)
-    → (status : ℕ) (left left_after taken taken_after : Option (List ℕ)) → Served mode status left left_after taken taken_after → ServedBy says status left left_after taken taken_after
-spelled mode says by status left left_after taken taken_after served = record {
-  input = served.input;
-  text = (answer_of mode served.input).text;
-  read = served.is_input.taken;
-  whole = served.is_input.whole;
-  sent = served.written;
-  long = λ h. let is = long_answer mode served.input h in (served.told ∙ ap (λ (w : Written). w.status) is, ap (λ (w : Written). w.text) is);
-  short = λ h. let is = short_answer mode served.input h in by served.input status (answer_of mode served.input).text (served.told ∙ ap (λ (w : Written). w.status) is) (ap (λ (w : Written). w.text) is);
+abbrev pub Says : (List ℕ → Written) → (List ℕ → ℕ → List ℕ → Type 0) → Type 0
+Says short says = (input : List ℕ) (status : ℕ) (text : List ℕ) → status ≡ (short input).status → text ≡ (short input).text → says input status text
+
+pub spelled_as : (short : List ℕ → Written) (says : List ℕ → ℕ → List ℕ → Type 0) → Says short says → (status : ℕ) (left left_after taken taken_after : Option (List ℕ)) (input : List ℕ) → IsInput left left_after input
+    → status ≡ (limited short input).status → Appends taken taken_after (limited short input).text → ServedBy says status left left_after taken taken_after
+spelled_as short says by status left left_after taken taken_after input is_input told written = record {
+  input = input;
+  text = (limited short input).text;
+  read = is_input.taken;
+  whole = is_input.whole;
+  sent = written;
+  long = λ h. let is = long_answer short input h in (told ∙ ap (λ (w : Written). w.status) is, ap (λ (w : Written). w.text) is);
+  short = λ h. let is = short_answer short input h in by input status (limited short input).text (told ∙ ap (λ (w : Written). w.status) is) (ap (λ (w : Written). w.text) is);
 }
 
-pub spelled_in_part : (mode : Mode) (says : List ℕ → ℕ → List ℕ → Type 0) → ((input : List ℕ) (status : ℕ) (text : List ℕ) → status ≡ (answer_in mode input).status → text ≡ (answer_in mode input).text → says input status text)
-    → (left left_after taken taken_after : Option (List ℕ)) → ServedInPart mode left left_after taken taken_after → SentInPart says left left_after taken taken_after
-spelled_in_part mode says by left left_after taken taken_after served = record {
-  input = served.input;
-  status = (answer_of mode served.input).status;
-  text = (answer_of mode served.input).text;
-  count = served.written.count;
-  read = served.is_input.taken;
-  whole = served.is_input.whole;
-  sent = served.written.sent;
-  long = λ h. let is = long_answer mode served.input h in (ap (λ (w : Written). w.status) is, ap (λ (w : Written). w.text) is);
-  short = λ h. let is = short_answer mode served.input h in
-      by served.input (answer_of mode served.input).status (answer_of mode served.input).text (ap (λ (w : Written). w.status) is) (ap (λ (w : Written). w.text) is);
+pub spelled_as_in_part : (short : List ℕ → Written) (says : List ℕ → ℕ → List ℕ → Type 0) → Says short says → (left left_after taken taken_after : Option (List ℕ)) (input : List ℕ) → IsInput left left_after input
+    → AppendsPrefix taken taken_after (limited short input).text → SentInPart says left left_after taken taken_after
+spelled_as_in_part short says by left left_after taken taken_after input is_input written = record {
+  input = input;
+  status = (limited short input).status;
+  text = (limited short input).text;
+  count = written.count;
+  read = is_input.taken;
+  whole = is_input.whole;
+  sent = written.sent;
+  long = λ h. let is = long_answer short input h in (ap (λ (w : Written). w.status) is, ap (λ (w : Written). w.text) is);
+  short = λ h. let is = short_answer short input h in
+      by input (limited short input).status (limited short input).text (ap (λ (w : Written). w.status) is) (ap (λ (w : Written). w.text) is);
 }
+
+pub spelled : (mode : Mode) (says : List ℕ → ℕ → List ℕ → Type 0) → Says (answer_in mode) says
+    → (status : ℕ) (left left_after taken taken_after : Option (List ℕ)) → Served mode status left left_after taken taken_after → ServedBy says status left left_after taken taken_after
+spelled mode says by status left left_after taken taken_after served =
+    spelled_as (answer_in mode) says by status left left_after taken taken_after served.input served.is_input served.told served.written
+
+pub spelled_in_part : (mode : Mode) (says : List ℕ → ℕ → List ℕ → Type 0) → Says (answer_in mode) says
+    → (left left_after taken taken_after : Option (List ℕ)) → ServedInPart mode left left_after taken taken_after → SentInPart says left left_after taken taken_after
+spelled_in_part mode says by left left_after taken taken_after served =
+    spelled_as_in_part (answer_in mode) says by left left_after taken taken_after served.input served.is_input served.written

@@ -1,5 +1,5 @@
 -- What the top call serves, once more, on one page: what was read, what went out for it, and the status.
-use Rattle.std.specs.Prelude.{◌≡◌, ◌≢◌, ℕ, ◌<◌, ◌≤◌, ◌⊎◌, ◌++◌, List, [], ◌∷◌, Option, MatchResult, length, take, codes, decimal}
+use Rattle.std.specs.Prelude.{◌≡◌, ◌≢◌, ℕ, ◌<◌, ◌≤◌, ◌⊎◌, ◌++◌, List, [], ◌∷◌, Option, None, MatchResult, length, take, codes, decimal}
 use Rattle.std.specs.Io.KnownBytes.{Appends, Consumes, IsAtEnd}
 use Rattle.tag_section.specs.Section.{names_of}
 use Rattle.text_form.specs.Lines.{lines_of}
@@ -9,6 +9,7 @@ use Rattle.step_text.specs.StepReading.{steps_of}
 use Rattle.trace.specs.TraceReading.{trace_of}
 use Rattle.round_check.specs.Walk.{rounds_of}
 use Rattle.step_play.specs.Schedule.{schedule_of}
+use Rattle.trace_play.specs.Play.{trace_text}
 use Rattle.info_read.specs.declared.row.InfoRow.{InfoRow}
 use Rattle.info_read.specs.Reading.{rows_of}
 use Rattle.info_group.specs.Grouping.{groups_of}
@@ -72,3 +73,12 @@ GroupsSay key input status text =
     MatchResult (rows_of input)
     (λ rows. Accepts (groups_text (groups_of key rows)) status text)
     (λ line. (status ≡ 1) × (text ≡ codes "line " ++ decimal line ++ codes ": info\n"))
+
+-- `run`: a trace that is of its form, and whose rounds are as they may be, is run
+abbrev pub RunSays : List ℕ → ℕ → List ℕ → Type 0
+RunSays input status text =
+    MatchResult (trace_of input)
+    (λ trace. MatchResult (rounds_of trace)
+    (λ done. MatchResult (trace_text trace None) (λ printed. Accepts printed status text) (λ why. Refuses (names_of trace.sections) why status text))
+    (λ why. Refuses (names_of trace.sections) why status text))
+    (λ why. Refuses [] why status text)

@@ -18,7 +18,7 @@ use std::alloc::Global;
 pub const INPUT_LIMIT: usize = 4_194_304;
 
 /// Writes the text. The status is 5 where that fails.
-fn finish<K: Sink>(sink: &mut K, status: u8, text: &[u8]) -> u8
+pub(crate) fn finish<K: Sink>(sink: &mut K, status: u8, text: &[u8]) -> u8
     ensures whole { result ≢ 5 → (result ≡ status) × Appends (K.taken sink.old) (K.taken sink.new) text.now }
     ensures part { result ≡ 5 → (status ≡ 5) ⊎ (Rose (K.faults sink.old) (K.faults sink.new) × AppendsPrefix (K.taken sink.old) (K.taken sink.new) text.now) }
     ensures kept { K.faults sink.old ≤ K.faults sink.new }
