@@ -1,20 +1,28 @@
 //! The program `memprof`: memory-allocation profiles by code tag.
 #![tactic(auto)]
 
-ghost use Rattle.std.specs.Prelude.{ℕ, List, ◌≡◌, ◌≢◌, ◌<◌, ◌⊎◌, ◌↔◌, drop, map, codes, Some, None, IfOk, IfErr, OnErr};
+ghost use Rattle.std.specs.Prelude.{ℕ, List, ◌≡◌, ◌≢◌, ◌<◌, ◌⊎◌, ◌↔◌, IsTrue, drop, map, codes, Some, None, IfOk, IfErr, OnErr};
 ghost use Rattle.std.specs.Option.{option_copied};
 ghost use Rattle.std.specs.String.{string_bytes};
 ghost use Rattle.std.specs.Io.KnownBytes.{Appends};
 ghost use Rattle.outside.specs.Faults.{Rose};
+ghost use Rattle.tag_model.specs.Index.{program_shape};
+ghost use Rattle.trace_play.specs.Answer.{run_answer};
 ghost use Rattle.profile_top.specs.declared.mode.Mode.{Mode};
-ghost use Rattle.profile_top.specs.Answers.{mode_of, answer_of, Served, ServedInPart};
+ghost use Rattle.profile_top.specs.Commands.{Command, Still, Run, CommandServed, CommandServedInPart, IsRunnable, command_answer, command_of};
+ghost use Rattle.trace_run.specs.Runs.{HasRun};
 ghost use Rattle.memprof.specs.Unread.{status_of};
 
 use outside::{Sink, Source, StdSink, StdSource};
-use profile_top::memprof_still;
+use plant::Plant;
+use profile_top::memprof;
+use round_worker::{Gate, OpenGate};
 use std::alloc::{AllocError, Global};
 use std::env;
 use std::process::ExitCode;
+use std::sync::Wait;
+use std::thread::Threads;
+use tag_model::Shape;
 
 #[cfg(test)]
 mod tests;
@@ -60,29 +68,42 @@ enum Unread {
     Memory(AllocError),
 }
 
-/// Serves the words behind the program's name, and answers the status.
-fn serve<S: Source, K: Sink>(
+/// Serves the words behind the program's name on a fresh plant of the program's shape, and answers the status.
+fn serve<R: Threads + Wait + Sync, G: Gate + Sync, S: Source, K: Sink>(
+    rt: &R,
     alloc: Global,
+    plant: &mut Plant,
+    gate: &G,
     arguments: Result<Vec<String>, Unread>,
     source: &mut S,
     sink: &mut K,
 ) -> u8
+    requires fresh { IsTrue plant.old.fresh }
+    requires shape { plant.old.shape ≡ program_shape }
     ensures unread { IfErr arguments (λ why. result ≡ status_of why) }
-    ensures untouched { OnErr arguments ((source.new ≡ source.old) × (sink.new ≡ sink.old)) }
-    ensures words { IfOk arguments (λ all. (result ≡ 2) ↔ (mode_of (map string_bytes (drop 1 all.items)) ≡ None)) }
-    ensures decided { IfOk arguments (λ all. (mode : Mode) (input : List ℕ) → mode_of (map string_bytes (drop 1 all.items)) ≡ Some mode → S.left source.old ≡ Some input → result < 2
-        → (result ≡ (answer_of mode input).status) × Appends (K.taken sink.old) (K.taken sink.new) (answer_of mode input).text) }
-    ensures served { IfOk arguments (λ all. (mode : Mode) → mode_of (map string_bytes (drop 1 all.items)) ≡ Some mode → result < 2 → Served mode result (S.left source.old) (S.left source.new) (K.taken sink.old) (K.taken sink.new)) }
-    ensures in_part { IfOk arguments (λ all. (mode : Mode) → mode_of (map string_bytes (drop 1 all.items)) ≡ Some mode → result ≡ 5 → ServedInPart mode (S.left source.old) (S.left source.new) (K.taken sink.old) (K.taken sink.new)) }
+    ensures untouched { OnErr arguments ((source.new ≡ source.old) × (sink.new ≡ sink.old) × (plant.new ≡ plant.old)) }
+    ensures words { IfOk arguments (λ all. (result ≡ 2) ↔ (command_of (map string_bytes (drop 1 all.items)) ≡ None)) }
+    ensures decided { IfOk arguments (λ all. (command : Command) (input : List ℕ) → command_of (map string_bytes (drop 1 all.items)) ≡ Some command → S.left source.old ≡ Some input → result < 2
+        → (result ≡ (command_answer command input).status) × Appends (K.taken sink.old) (K.taken sink.new) (command_answer command input).text) }
+    ensures served { IfOk arguments (λ all. (command : Command) → command_of (map string_bytes (drop 1 all.items)) ≡ Some command → result < 2
+        → CommandServed command result (S.left source.old) (S.left source.new) (K.taken sink.old) (K.taken sink.new) plant.old plant.new) }
+    ensures in_part { IfOk arguments (λ all. (command : Command) → command_of (map string_bytes (drop 1 all.items)) ≡ Some command → result ≡ 5
+        → CommandServedInPart command (S.left source.old) (S.left source.new) (K.taken sink.old) (K.taken sink.new) plant.old plant.new) }
     ensures range { result < 6 }
     ensures silent { (result ≡ 2) ⊎ (result ≡ 3) ⊎ (result ≡ 4) → sink.new ≡ sink.old }
     ensures read_fault { result ≡ 4 → Rose (S.faults source.old) (S.faults source.new) }
     ensures write_fault { result ≡ 5 → Rose (K.faults sink.old) (K.faults sink.new) }
     ensures no_read_fault { result ≢ 4 → S.faults source.new ≡ S.faults source.old }
     ensures no_write_fault { result ≢ 5 → K.faults sink.new ≡ K.faults sink.old }
+    // The plant: only `run` changes it, and only where the input's trace is run.
+    ensures still { IfOk arguments (λ all. (mode : Mode) → command_of (map string_bytes (drop 1 all.items)) ≡ Some (Still mode) → plant.new ≡ plant.old) }
+    ensures plant { (result ≡ 2) ⊎ (result ≡ 4) → plant.new ≡ plant.old }
+    ensures not_run { (input : List ℕ) → S.left source.old ≡ Some input → ¬ IsRunnable input → plant.new ≡ plant.old }
+    ensures ran { IfOk arguments (λ all. (input : List ℕ) → command_of (map string_bytes (drop 1 all.items)) ≡ Some Run → S.left source.old ≡ Some input → result ≢ 3 → result ≢ 4
+        → IsRunnable input → HasRun (run_answer None input).machine plant.old plant.new) }
 {
     match arguments {
-        Ok(all) => memprof_still(alloc, words(all.as_slice()), source, sink),
+        Ok(all) => memprof(rt, alloc, plant, gate, words(all.as_slice()), source, sink),
         Err(Unread::Failed) => USAGE,
         Err(Unread::Memory(_)) => NO_MEMORY,
     }
@@ -97,7 +118,18 @@ fn main(rt: HostRuntime) -> ExitCode {
     };
     let mut source = StdSource::new(rt.stdin());
     let mut sink = StdSink::new(rt.stdout());
-    let status = serve(rt.alloc(), arguments, &mut source, &mut sink);
+    let status = match Plant::new(rt.alloc(), Shape::program()) {
+        Ok(mut plant) => serve(
+            &rt,
+            rt.alloc(),
+            &mut plant,
+            &OpenGate,
+            arguments,
+            &mut source,
+            &mut sink,
+        ),
+        Err(_) => NO_MEMORY,
+    };
     if let Some(text) = complaint(status) {
         let _said = eprintln!(rt; "{text}");
     }

@@ -2,11 +2,24 @@ use super::*;
 use outside::{MemSink, MemSource};
 use std::test::Fail;
 
-fn served(alloc: Global, arguments: Result<Vec<String>, Unread>) -> Result<(u8, Vec<u8>), Fail> {
+fn served<R: Threads + Wait + Sync>(
+    rt: &R,
+    alloc: Global,
+    arguments: Result<Vec<String>, Unread>,
+) -> Result<(u8, Vec<u8>), Fail> {
+    let mut plant = Plant::new(alloc, Shape::program())?;
     let input = b"memprof-steps 1.0\nkernel\ntag mm/a.c 10 fa\n".to_vec(alloc)?;
     let mut source = MemSource::new(input, Vec::new(alloc), 64);
     let mut sink = MemSink::new(alloc, 100, Vec::new(alloc), 64)?;
-    let status = serve(alloc, arguments, &mut source, &mut sink);
+    let status = serve(
+        rt,
+        alloc,
+        &mut plant,
+        &OpenGate,
+        arguments,
+        &mut source,
+        &mut sink,
+    );
     Ok((status, sink.taken().to_vec(alloc)?))
 }
 
@@ -17,14 +30,14 @@ fn answers(rt: HostRuntime) -> Result<(), Fail> {
     for word in ["memprof", "check"] {
         checks.push(String::from_str(alloc, word)?)?;
     }
-    let (status, text) = served(alloc, Ok(checks))?;
+    let (status, text) = served(&rt, alloc, Ok(checks))?;
     assert!(rt; status == 0 && text.as_slice() == b"ok lines 3\n".as_slice());
     for (arguments, wanted) in [
         (Ok(Vec::new(alloc)), 2),
         (Err(Unread::Failed), 2),
         (Err(Unread::Memory(AllocError)), 3),
     ] {
-        let (status, text) = served(alloc, arguments)?;
+        let (status, text) = served(&rt, alloc, arguments)?;
         assert!(rt; status == wanted && text.is_empty(), "{wanted}");
     }
     Ok(())
