@@ -1,5 +1,5 @@
 -- How a node keeps its slabs: sets of bits, and what holds of them. No contract that others see speaks of it.
-use Rattle.std.specs.Prelude.{ℕ, ◌≡◌, ◌+◌, ◌^◌, ◌<◌, ◌≤◌, ◌==◌, ◌⊎◌, ◌&&◌, ◌||◌, not, IsTrue, Bool, true, false, Option, Some, None, List, [], length, get_or, map, option_map, slice_get, slice_set, if◌then◌else◌}
+use Rattle.std.specs.Prelude.{ℕ, ◌≡◌, ◌+◌, ◌^◌, ◌<◌, ◌≤◌, ◌⊎◌, ◌&&◌, ◌||◌, not, IsTrue, Bool, true, false, Option, Some, None, List, length, map, option_map, slice_get, slice_set, if◌then◌else◌}
 use Rattle.std.specs.Int.{bit_at}
 use Rattle.std.specs.List.{list_any}
 use Rattle.tag_model.specs.declared.state.Held.TheVariants as held
@@ -101,12 +101,6 @@ is_open_slab class slab = is_open class (slab_in slab)
 abbrev pub open_at : List (Option SlabShown) → ℕ → List Bool
 open_at slabs class = map (is_open_slab class) slabs
 
--- of the first classes, so many, the set has the frame exactly where an open slab of the class is there now; the other sets are as before
-pub record Notes (slab : Option SlabShown) (frame count : ℕ) (sets after : List (List Bool)) : Type 0 where
-  pub long : length after ≡ length sets
-  pub noted : (class : ℕ) → class < count → get_or after class [] ≡ slice_set (get_or sets class []) frame (is_open_slab (class_at class) slab)
-  pub same : (class : ℕ) → count ≤ class → get_or after class [] ≡ get_or sets class []
-
 -- for each class a set of the frames of its open slabs
 pub record IsTable (slabs : List (Option SlabShown)) (sets : List (List Bool)) : Type 0 where
   pub few : length slabs ≤ 1024
@@ -146,6 +140,13 @@ pub record HasPlace (slabs : List (Option SlabShown)) (place : Place) : Type 0 w
 
 abbrev pub slab_without : ℕ → SlabShown → SlabShown
 slab_without place slab = with_slab_state (with_place false place slab.slab) slab
+
+-- the slab has its place free again; what is left in it is told
+pub record GetsPlace (slabs : List (Option SlabShown)) (place : Place) (after : List (Option SlabShown)) (left : Bool) : Type 0 where
+  pub slab : SlabShown
+  pub here : slice_get slabs place.frame ≡ Some (Some slab)
+  pub now : after ≡ slice_set slabs place.frame (Some (slab_without place.place slab))
+  pub used : left ≡ is_used (slab_without place.place slab).slab
 
 pub record LosesPlace (slabs : List (Option SlabShown)) (place : Place) (after : List (Option SlabShown)) (empty : Option SlabShown) : Type 0 where
   pub slab : SlabShown

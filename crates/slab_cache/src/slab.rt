@@ -64,6 +64,13 @@ impl Slab {
         &self.block
     }
 
+    /// Its class.
+    pub fn class(&self) -> Class
+        ensures { class_at result.index ≡ self.now.slab.class }
+    {
+        self.class
+    }
+
     /// Whether it is of the class and has a free place.
     pub fn is_open(&self, class: Class) -> bool
         ensures { result ≡ is_open (class_at class.index) (Some self.now.slab) }

@@ -1,6 +1,6 @@
-ghost use Rattle.std.specs.Prelude.{ℕ, ◌≡◌, ◌<◌, ◌≤◌, IfOk, IsTrue, None, Some, length, not, [], false, option_map, position, replicate, slice_get, slice_index_or, slice_set, true, if◌then◌else◌};
+ghost use Rattle.std.specs.Prelude.{ℕ, ◌≡◌, ◌<◌, ◌≤◌, IfOk, None, Some, length, false, option_map, position, replicate, slice_get, slice_index_or, slice_set};
 ghost use Rattle.slab_cache.specs.Bits.{class_at};
-ghost use Rattle.slab_cache.specs.Tables.{HasPlace, IsOpenAt, LosesPlace, Notes, TakesPlace, is_open_slab, open_at, slab_in};
+ghost use Rattle.slab_cache.specs.Tables.{GetsPlace, HasPlace, IsOpenAt, LosesPlace, TakesPlace, is_open_slab};
 
 use crate::class::{CLASSES, Class};
 use crate::frame_set::FrameSet;
@@ -64,8 +64,11 @@ impl SlabTable {
         ensures slab { result ≡ slice_index_or self.old frame None }
         ensures table { self.new ≡ slice_set self.old frame slab }
     {
-        note_open(&mut self.open_frames, frame, &slab);
-        mem::replace(&mut self.slabs[frame as usize], slab)
+        let was = self.take_out(frame);
+        if let Some(slab) = slab {
+            self.put_in(frame, slab);
+        }
+        was
     }
 
     /// Takes the lowest free place of the slab at a frame.
@@ -73,9 +76,12 @@ impl SlabTable {
         requires { IsOpenAt frame self.old }
         ensures { TakesPlace frame self.old self.new result }
     {
-        let mut slab = self.replace(frame, None).unwrap();
+        let slab = self.slabs[frame as usize].as_mut().unwrap();
+        let class = slab.class();
         let place = slab.take_place();
-        let _none = self.replace(frame, Some(slab));
+        if !slab.is_open(class) {
+            self.open_frames[class.index].put(frame, false);
+        }
         place
     }
 
@@ -85,13 +91,51 @@ impl SlabTable {
         ensures { LosesPlace self.old place self.new result }
     {
         let frame = place.frame;
-        let mut slab = self.replace(frame, None).unwrap();
-        slab.give_place(place);
-        if slab.is_used() {
-            self.replace(frame, Some(slab))
+        if self.put_back(place) {
+            None
         } else {
-            Some(slab)
+            self.take_out(frame)
         }
+    }
+
+    // Takes a place back into its slab, and tells whether an object is left in it.
+    fn put_back(&mut self, place: Place) -> bool
+        requires { HasPlace self.old place }
+        ensures { GetsPlace self.old place self.new result }
+    {
+        let frame = place.frame;
+        let slab = self.slabs[frame as usize].as_mut().unwrap();
+        let class = slab.class();
+        let was_open = slab.is_open(class);
+        slab.give_place(place);
+        let is_used = slab.is_used();
+        if !was_open {
+            self.open_frames[class.index].put(frame, true);
+        }
+        is_used
+    }
+
+    // Takes the slab at a frame out, if one is there.
+    fn take_out(&mut self, frame: u32) -> Option<Slab>
+        requires { frame < length self.old }
+        ensures slab { result ≡ slice_index_or self.old frame None }
+        ensures table { self.new ≡ slice_set self.old frame None }
+    {
+        let was = mem::replace(&mut self.slabs[frame as usize], None);
+        if let Some(slab) = &was {
+            self.open_frames[slab.class().index].put(frame, false);
+        }
+        was
+    }
+
+    // Puts a slab at a frame that has none.
+    fn put_in(&mut self, frame: u32, slab: Slab)
+        requires { slice_get self.old frame ≡ Some None }
+        ensures { self.new ≡ slice_set self.old frame (Some slab) }
+    {
+        let class = slab.class();
+        self.open_frames[class.index].put(frame, slab.is_open(class));
+        let _none = mem::replace(&mut self.slabs[frame as usize], Some(slab));
     }
 }
 
@@ -116,25 +160,4 @@ fn no_frames(alloc: Global, frames: u32) -> Result<Vec<FrameSet>, AllocError>
         sets.push(FrameSet::new(alloc, frames)?)?;
     }
     Ok(sets)
-}
-
-// For each class, notes whether an open slab of it is at the frame.
-fn note_open(sets: &mut [FrameSet], frame: u32, slab: &Option<Slab>)
-    requires few { length sets.old ≤ 13 }
-    requires frame { (class : ℕ) → class < length sets.old → frame < length (slice_index_or sets.old class []) }
-    ensures { Notes slab.now frame (length sets.old) sets.old sets.new }
-{
-    for (index, set) in sets.iter_mut().enumerate() {
-        set.put(frame, is_open_at(slab, Class { index }));
-    }
-}
-
-// Whether it is an open slab of the class.
-fn is_open_at(slab: &Option<Slab>, class: Class) -> bool
-    ensures { result ≡ is_open_slab (class_at class.index) slab.now }
-{
-    match slab {
-        Some(slab) => slab.is_open(class),
-        None => false,
-    }
 }

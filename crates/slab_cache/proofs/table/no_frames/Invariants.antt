@@ -1,4 +1,4 @@
-use Rattle.std.proofs.Common.{ℕ, ◌≡◌, ◌≤◌, false, replicate}
+use Rattle.std.proofs.Common.{◌≡◌, false, replicate}
 use Rattle.slab_cache.proofs.table.no_frames.Given as goal
 
 abbrev pub invariant-loop-class : goal.invariant-loop-class

@@ -1,4 +1,4 @@
-use Rattle.std.proofs.Common.{ℕ, ◌≡◌, ◌≤◌, None, replicate}
+use Rattle.std.proofs.Common.{◌≡◌, None, replicate}
 use Rattle.slab_cache.proofs.table.no_slabs.Given as goal
 
 abbrev pub invariant-loop-frame : goal.invariant-loop-frame

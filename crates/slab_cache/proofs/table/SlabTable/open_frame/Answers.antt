@@ -1,4 +1,4 @@
-use Rattle.std.proofs.Common.{position, sym, ap, ◌∙◌}
+use Rattle.std.proofs.Common.{position, ap, ◌∙◌}
 use Rattle.slab_cache.specs.Bits.{class_at}
 use Rattle.slab_cache.specs.Tables.{is_open_slab}
 use Rattle.slab_cache.proofs.TableLemmas.{position_of_map, set_of}
