@@ -22,7 +22,7 @@ use Rattle.tag_model.specs.Sweeping.{are_above_zero, has_stop, ids_left, is_acco
 use Rattle.tag_model.proofs.Accounted.{begins_off, sweeps_account}
 use Rattle.tag_model.proofs.SweepSteps.{sweeps_at_most, sweeps_read}
 use Rattle.module_area.specs.declared.entry.Entry.{Entry}
-use Rattle.module_area.specs.Entries.{Covers, entry_of, is_dead}
+use Rattle.module_area.specs.Entries.{Covers, is_dead}
 use Rattle.module_area.specs.Area.{Area, IsBook}
 use Rattle.module_list.specs.Listing.{releasable, swept}
 use Rattle.core_list.specs.ListState.{record_of}

@@ -13,3 +13,5 @@ pub mod QuietClean
 pub mod Releasing
 pub mod Boards
 pub mod MayTake
+pub mod Halves
+pub mod InsideFirst

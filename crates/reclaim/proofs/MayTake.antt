@@ -1,5 +1,5 @@
 -- A CPU that came into a module may count under the module's first tag.
-use Rattle.std.proofs.Common.{◌≡◌, ◌≢◌, ℕ, ◌<◌, ◌≤◌, ◌==◌, ◌&&◌, nat_lt, ◌++◌, List, [], ◌∷◌, Some, ◌∙◌, sym, subst, arith, Bool, true, eq-eqb, ne_eqb}
+use Rattle.std.proofs.Common.{◌≡◌, ◌≢◌, ℕ, ◌≤◌, ◌==◌, ◌&&◌, nat_lt, ◌++◌, List, [], ◌∷◌, Some, ◌∙◌, sym, subst, arith, Bool, true, eq-eqb, ne_eqb}
 use Rattle.std.specs.List.{list_any}
 use Rattle.std.proofs.lemmas.Bool.{and_from, cond-false}
 use Rattle.tag_model.specs.declared.shape.Shape.{Shape}

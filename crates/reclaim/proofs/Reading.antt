@@ -95,6 +95,11 @@ pub reads_some : (k : Shape) (old new : ListPart) → Reads k old new → is_sti
 reads_some k old new no_read reading still = absurd (both_ways (is_still old.sweep) reading still)
 reads_some k old new (then_read {mid} before one) reading still = omega (arith, (reads_keep k old mid before).more, one_more k mid new one)
 
+-- reads go on
+pub reads_on : (k : Shape) (old between new : ListPart) → Reads k old between → Reads k between new → Reads k old new
+reads_on k old between new first no_read = first
+reads_on k old between new first (then_read {mid} before one) = then_read (reads_on k old between mid first before) one
+
 -- ---- a read, from what the call says of its word
 
 -- a record has the tag in its range that is read next

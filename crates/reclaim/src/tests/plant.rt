@@ -63,13 +63,13 @@ fn cells_of(
 
 /// So many CPUs, a tag of the kernel and four of the area.
 pub fn shape_of(cpus: u32) -> Shape
-    ensures { result ≡ record { cpus = cpus; tags = 5; kernel_tags = 1; frames = 64; vectors = 0 } }
+    ensures { result ≡ record { cpus = cpus; tags = 5; kernel_tags = 1; frames = 512; vectors = 0 } }
 {
     Shape {
         cpus,
         tags: 5,
         kernel_tags: 1,
-        frames: 64,
+        frames: 512,
         vectors: 0,
     }
 }

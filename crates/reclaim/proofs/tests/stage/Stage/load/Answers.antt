@@ -10,4 +10,6 @@ invariant_of-self c =
       loads_there = pass_board s.loads c.load_locked.new.pass c.load_locked.result c.load_locked.ensures.ok c.load_locked.ensures.err ∙ (s.loads_there ∙ sym board);
       cpu_there = s.cpu_there ∙ sym board;
       cell_there = s.cell_there ∙ sym board;
+      other_there = s.other_there ∙ sym board;
+      spare_there = s.spare_there ∙ sym board;
     }
