@@ -1,6 +1,9 @@
 -- Lanes by their numbers, and the ops of the lanes.
-use Rattle.std.proofs.Common.{◌≡◌, ◌<◌, ◌+◌, ◌++◌, ◌∙◌, ℕ, zero, suc, List, [], ◌∷◌, length, map, refl, sym, ap, arith, add-one, add-zero, zero-add}
-use Rattle.std.proofs.lemmas.List.{map-append}
+use Rattle.std.proofs.Common.{◌≡◌, ◌≢◌, ◌<◌, ◌≤◌, ◌+◌, ◌++◌, ◌∙◌, ℕ, zero, suc, Bool, cond, List, [], ◌∷◌, length, map, get_or, slice_set, refl, sym, ap, subst, inl, inr, arith, add-one, add-zero, zero-add}
+use Rattle.std.proofs.lemmas.Bool.{cases_eq, eq-eqb, ne_eqb}
+use Rattle.std.proofs.lemmas.List.{append-nil, get_or-map, get_or-set_other, get_or-set_same, length-set, map-append, map-set, same_lists}
+use Rattle.std.proofs.lemmas.List.Elements.{filter-append}
+use Rattle.std.proofs.lemmas.List.FromFn.{get_or-map-range_with_len, length-map-range_with_len}
 use Rattle.std.specs.Prelude.{◌==◌, filter}
 use Rattle.std.specs.List.{range_with_len}
 use Rattle.tag_rule.specs.Shown.{CpuShown}
@@ -108,3 +111,49 @@ lanes_more items count ops before lane is one =
     ∙ ap (λ (lanes : List Lane). lanes ++ items lane ∷ []) is
     ∙ ap (λ (last : Lane). lanes_of count ops ++ last ∷ []) one
     ∙ sym (ap (λ (numbers : List ℕ). map (lane_of ops) numbers) more ∙ map-append (lane_of ops) (range_with_len 0 count) (count ∷ []))
+
+-- ---- one op more
+
+lane_more : (ops : List OnOp) (on : OnOp) (cpu : ℕ) → lane_of (ops ++ on ∷ []) cpu ≡ lane_of ops cpu ++ cond (on.cpu == cpu) (on ∷ []) []
+lane_more ops on cpu = filter-append (λ (o : OnOp). o.cpu == cpu) ops (on ∷ [])
+
+-- the lane of its CPU has it behind the others
+own_lane_more : (ops : List OnOp) (on : OnOp) (cpu : ℕ) → on.cpu ≡ cpu → lane_of (ops ++ on ∷ []) cpu ≡ lane_of ops cpu ++ on ∷ []
+own_lane_more ops on cpu own = lane_more ops on cpu ∙ ap (λ (b : Bool). lane_of ops cpu ++ cond b (on ∷ []) []) (eq-eqb on.cpu cpu own)
+
+-- the lane of another doesn't
+other_lane_more : (ops : List OnOp) (on : OnOp) (cpu : ℕ) → on.cpu ≢ cpu → lane_of (ops ++ on ∷ []) cpu ≡ lane_of ops cpu
+other_lane_more ops on cpu other = lane_more ops on cpu ∙ ap (λ (b : Bool). lane_of ops cpu ++ cond b (on ∷ []) []) (ne_eqb on.cpu cpu other) ∙ append-nil (lane_of ops cpu)
+
+lane_at : (count : ℕ) (ops : List OnOp) (cpu : ℕ) (d : Lane) → cpu < count → get_or (lanes_of count ops) cpu d ≡ lane_of ops cpu
+lane_at count ops cpu d below = get_or-map-range_with_len (lane_of ops) 0 count cpu cpu d below (omega arith)
+
+pub lanes_long : (count : ℕ) (ops : List OnOp) → length (lanes_of count ops) ≡ count
+lanes_long count ops = length-map-range_with_len (lane_of ops) 0 count
+
+-- an op of a CPU that has a lane
+pub op_more : {V : Type 0} (items : V → Lane) (count : ℕ) (ops : List OnOp) (on : OnOp) (lanes : List V) (was lane : V) → map items lanes ≡ lanes_of count ops → on.cpu < length lanes → was ≡ get_or lanes on.cpu was → items lane ≡ items was ++ on ∷ []
+    → map items (slice_set lanes on.cpu lane) ≡ lanes_of count (ops ++ on ∷ [])
+op_more items count ops on lanes was lane is within here more =
+    map-set items lanes on.cpu lane ∙ ap (λ (ls : List Lane). slice_set ls on.cpu (items lane)) is
+    ∙ same_lists _ _ (length-set (lanes_of count ops) on.cpu (items lane) ∙ lanes_long count ops ∙ sym (lanes_long count (ops ++ on ∷ [])))
+    (λ cpu d below.
+    let small : cpu < count = omega (arith, length-set (lanes_of count ops) on.cpu (items lane), lanes_long count ops) in
+    at cpu d small ∙ sym (lane_at count (ops ++ on ∷ []) cpu d small))
+  where
+    at : (cpu : ℕ) (d : Lane) → cpu < count → get_or (slice_set (lanes_of count ops) on.cpu (items lane)) cpu d ≡ lane_of (ops ++ on ∷ []) cpu
+    at cpu d small = elim (cases_eq on.cpu cpu) [
+      | inl own ↦ subst (λ k. get_or (slice_set (lanes_of count ops) on.cpu (items lane)) k d ≡ lane_of (ops ++ on ∷ []) k) own
+          (get_or-set_same (lanes_of count ops) on.cpu (items lane) d (omega (arith, own, small, lanes_long count ops)) ∙ more
+          ∙ ap (λ (l : Lane). l ++ on ∷ []) (ap items here ∙ sym (get_or-map items lanes on.cpu was d within) ∙ ap (λ (ls : List Lane). get_or ls on.cpu d) is ∙ lane_at count ops on.cpu d (omega (arith, own, small)))
+          ∙ sym (own_lane_more ops on on.cpu refl))
+      | inr other ↦ get_or-set_other (lanes_of count ops) on.cpu cpu (items lane) d (λ same. other (sym same)) ∙ lane_at count ops cpu d small ∙ sym (other_lane_more ops on cpu other)
+    ]
+
+-- an op of a CPU that has none
+pub op_left_out : (count : ℕ) (ops : List OnOp) (on : OnOp) → count ≤ on.cpu → lanes_of count ops ≡ lanes_of count (ops ++ on ∷ [])
+op_left_out count ops on past =
+    same_lists _ _ (lanes_long count ops ∙ sym (lanes_long count (ops ++ on ∷ [])))
+    (λ cpu d below.
+    let small : cpu < count = omega (arith, lanes_long count ops) in
+    lane_at count ops cpu d small ∙ sym (lane_at count (ops ++ on ∷ []) cpu d small ∙ other_lane_more ops on cpu (λ same. absurd (omega arith))))

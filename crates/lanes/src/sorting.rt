@@ -1,6 +1,6 @@
 //! The ops of each CPU.
 
-ghost use Rattle.std.specs.Prelude.{◌≡◌, ◌==◌, IfOk, filter, map};
+ghost use Rattle.std.specs.Prelude.{◌≡◌, IfOk, [], map};
 ghost use Rattle.lanes.specs.Lanes.{lanes_of};
 
 use std::alloc::{AllocError, Global};
@@ -10,23 +10,22 @@ use trace::OnOp;
 pub fn by_cpu(alloc: Global, count: u32, ops: &[OnOp]) -> Result<Vec<Vec<OnOp>>, AllocError>
     ensures { IfOk result (λ lanes. map (λ lane. lane.items) lanes.items ≡ lanes_of count ops.now) }
 {
-    let mut lanes = Vec::new(alloc);
-    for cpu in 0..count {
-        lanes.push(ops_on(alloc, cpu, ops)?)?;
+    let mut lanes = no_ops(alloc, count)?;
+    for on in ops {
+        if let Some(lane) = lanes.get_mut(on.cpu as usize) {
+            lane.push(*on)?;
+        }
     }
     Ok(lanes)
 }
 
-// The ops of one CPU.
-#[tactic(auto, using(std::proofs::lemmas::List::Elements::filter_more))]
-fn ops_on(alloc: Global, cpu: u32, ops: &[OnOp]) -> Result<Vec<OnOp>, AllocError>
-    ensures { IfOk result (λ lane. lane.items ≡ filter (λ on. on.cpu == cpu) ops.now) }
+// So many lanes with no op.
+fn no_ops(alloc: Global, count: u32) -> Result<Vec<Vec<OnOp>>, AllocError>
+    ensures { IfOk result (λ lanes. map (λ lane. lane.items) lanes.items ≡ lanes_of count []) }
 {
-    let mut lane = Vec::new(alloc);
-    for on in ops {
-        if on.cpu == cpu {
-            lane.push(*on)?;
-        }
+    let mut lanes = Vec::with_capacity(alloc, count as usize)?;
+    for _cpu in 0..count {
+        lanes.push(Vec::new(alloc))?;
     }
-    Ok(lane)
+    Ok(lanes)
 }
