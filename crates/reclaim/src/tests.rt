@@ -3,9 +3,11 @@ mod race;
 mod splits;
 mod stage;
 mod tie;
+mod yard;
 
 use self::stage::new_stage;
 use self::tie::tie;
+use self::yard::{finish, new_yard, work_beside};
 use crate::{NotLoaded, Reclaim, UnloadError};
 use module_area::{AreaError, Entry, State};
 use std::test::Fail;
@@ -86,5 +88,22 @@ fn tie_after_the_lock(rt: HostRuntime) -> Result<(), Fail> {
         users: 1,
     };
     assert_eq!(rt; tie(&rt, stage, id), Some((entry, 0)));
+    Ok(())
+}
+
+// Two threads split and free what is counted under a dead module, while this one cleans. No cleaning releases the module as
+// long as its last reference lives; then one does, by the words of all CPUs.
+#[test]
+fn cleaned_beside_frees(rt: HostRuntime) -> Result<(), Fail> {
+    let (yard, answer) = new_yard(rt.alloc())?.expect(&rt, "CPUs and cells");
+    let kept = Reclaim::Kept {
+        tag: 1,
+        kind: Kind::Bytes,
+        sum: 403 * 8_192,
+    };
+    assert_eq!(rt; answer, kept);
+    let (yard, gone) = work_beside(&rt, yard);
+    assert_eq!(rt; gone, 0);
+    assert_eq!(rt; finish(yard), Some(1));
     Ok(())
 }
