@@ -2,3 +2,4 @@ pub mod Dealing
 pub mod Dealt
 pub mod PoolLemmas
 pub mod WorkerLemmas
+pub mod WordLemmas

@@ -2,11 +2,13 @@
 #![tactic(auto)]
 
 mod laws;
+mod left;
 mod starting;
 mod table;
 mod words;
 mod worker;
 
 pub use laws::workers_begin_as_the_meaning_does;
+pub use left::Left;
 pub use starting::Started;
-pub use table::Plant;
+pub use table::{Plant, print_quiet};

@@ -1,14 +1,18 @@
 //! A table with all that stands on it.
 
-ghost use Rattle.std.specs.Prelude.{◌≡◌, ◌<◌, [], All, IfOk, IsTrue, Some, false, length, slice_get};
+ghost use Rattle.std.specs.Prelude.{◌≡◌, ◌<◌, ◌≤◌, ◌++◌, [], All, IfOk, IsTrue, None, OnOk, Some, false, length, slice_get, unwrap_or};
 ghost use Rattle.std.specs.Arc.{arc_value};
+ghost use Rattle.tag_model.specs.Index.{first_cell, word_count};
 ghost use Rattle.tag_model.specs.Shape.{IsChecked};
 ghost use Rattle.tag_rule.specs.Shown.{CpuShown};
+ghost use Rattle.trace_play.specs.Left.{word_at};
 ghost use Rattle.plant.specs.Fresh.{FitsShape, IsStarted};
-ghost use Rattle.plant.specs.Table.{IsNew, tag_words};
+ghost use Rattle.plant.specs.Table.{IsLeft, IsNew, cells_of, quiet_text, tag_words};
 
+use crate::left::Left;
 use crate::starting::{Started, deal};
 use crate::words::words_at;
+use allocinfo::write_header;
 use std::alloc::{AllocError, Global};
 use std::marker::Model;
 use std::mem;
@@ -35,6 +39,8 @@ pub struct Plant {
     cpus: Vec<CpuSeat>,
     // As long as no run has begun.
     fresh: Option<Tokens>,
+    // Once a run has ended.
+    left: Option<Left>,
 }
 
 impl Model for Plant {
@@ -43,9 +49,9 @@ impl Model for Plant {
 
     ghost Value = { PlantShown };
 
-    ghost view = { λ plant. record { shape = plant.shape; fresh = is_some plant.fresh; cpus = plant.cpus.items } };
+    ghost view = { λ plant. record { shape = plant.shape; fresh = is_some plant.fresh; cpus = plant.cpus.items; left = plant.left } };
 
-    ghost invariant = { λ plant. IsPlant plant.shape plant.cpus plant.fresh };
+    ghost invariant = { λ plant. IsPlant plant.shape plant.cpus plant.fresh plant.left };
 }
 
 impl Plant {
@@ -72,6 +78,7 @@ impl Plant {
             shape,
             cpus,
             fresh: Some(tokens),
+            left: None,
         })
     }
 
@@ -98,8 +105,9 @@ impl Plant {
         requires fresh { IsTrue self.old.fresh }
         requires fits { FitsShape self.old.shape trace.now }
         ensures started { IfOk result (IsStarted self.old.shape trace.now (arc_value sections)) }
-        ensures plant { self.new ≡ record self.old { fresh = false; cpus = [] } }
+        ensures plant { self.new ≡ record self.old { fresh = false; cpus = []; left = None } }
     {
+        self.left = None;
         let fresh = self.fresh.take();
         let cpus = mem::replace(&mut self.cpus, Vec::new(self.alloc));
         let Tokens {
@@ -118,12 +126,14 @@ impl Plant {
         deal(self.alloc, self.shape, seats, trace, sections)
     }
 
-    /// The CPUs come back, as a run left them.
-    pub fn settle(&mut self, cpus: Vec<CpuSeat>)
-        requires { self.old.fresh ≡ false }
-        ensures { self.new ≡ record self.old { cpus = cpus.items } }
+    /// The CPUs come back, and the rest, as a run left them.
+    pub fn settle(&mut self, cpus: Vec<CpuSeat>, left: Left)
+        requires used { self.old.fresh ≡ false }
+        requires left { IsLeft self.old.shape cpus.items left }
+        ensures { self.new ≡ record self.old { cpus = cpus.items; left = Some left } }
     {
         self.cpus = cpus;
+        self.left = Some(left);
     }
 
     /// The bytes and the calls of a tag in the words of a CPU.
@@ -134,5 +144,33 @@ impl Plant {
         ensures same { self.new ≡ self.old }
     {
         words_at(&mut self.cpus, cpu as usize, tag)
+    }
+
+    /// The word of the cell with the index: that of the reference that it holds, or 0.
+    pub fn cell_word(&self, cell: usize) -> u64
+        requires { (first_cell self.now.shape ≤ cell) × (cell < word_count self.now.shape) }
+        ensures { result ≡ unwrap_or (word_at self.now.shape cell (cells_of self.now)) 0 }
+    {
+        match &self.left {
+            Some(left) => left.word_at(cell).unwrap_or(0),
+            None => 0,
+        }
+    }
+}
+
+/// Appends the text of all tags, or of so many with the greatest numbers, by the words that the CPUs have now. Kept ranges
+/// are shown where `kept` is true.
+pub fn print_quiet(
+    plant: &mut Plant,
+    top: Option<u32>,
+    kept: bool,
+    out: &mut Vec<u8>,
+) -> Result<(), AllocError>
+    ensures text { OnOk result (out.new.items ≡ out.old.items ++ quiet_text kept top plant.old) }
+    ensures same { plant.new ≡ plant.old }
+{
+    match &plant.left {
+        Some(left) => left.print(plant.alloc, plant.cpus.as_mut_slice(), kept, top, out),
+        None => write_header(out),
     }
 }

@@ -1,14 +1,15 @@
 -- What is said of each key, of the entries one by one.
-use Rattle.std.proofs.Common.{◌≡◌, ℕ, zero, suc, ◌+◌, ◌-◌, ◌<◌, ◌≤◌, Bool, true, false, cond, T, ltb, List, [], ◌∷◌, ◌++◌, length, map, take, drop, get_or, Option, Some, None, is_some, All, IfSome, IsSome, Ordering, Less, Equal, Greater, nat_cmp, is_eq, count_by, refl, sym, ap, ◌∙◌, subst, arith}
+use Rattle.std.proofs.Common.{◌≡◌, ℕ, zero, suc, ◌+◌, ◌-◌, ◌<◌, ◌≤◌, Bool, true, false, cond, T, ltb, List, [], ◌∷◌, ◌++◌, length, map, take, drop, get_or, Option, Some, None, is_some, All, IfSome, IsSome, Ordering, Less, Equal, Greater, nat_cmp, is_eq, count_by, refl, sym, ap, ap₂, ◌∙◌, subst, arith}
 use Rattle.std.specs.List.{flat_map}
 use Rattle.std.specs.Ordering.{is_gt}
 use Rattle.std.specs.Map.{set_value, values_of}
+use Rattle.std.specs.Option.{option_or}
 use Rattle.std.specs.BTreeMap.{is_at}
 use Rattle.std.specs.Cmp.{unsigned_tied}
 use Rattle.std.specs.FinMap.Entries.{find, put, is_sorted, below_all}
 use Rattle.std.proofs.lemmas.Bool.{cond-true, cond-false, eqb-true, eq-eqb, ltb-true, ltb-false}
 use Rattle.std.proofs.lemmas.Cmp.{ranked}
-use Rattle.std.proofs.lemmas.List.Elements.{All-nil, All-cons}
+use Rattle.std.proofs.lemmas.List.Elements.{All-nil, All-cons, All-head, All-tail}
 use Rattle.std.proofs.lemmas.List.Sums.{sum_by-cons, sum_by-append}
 use Rattle.tag_model.specs.Index.{Slot, Page}
 use Rattle.tag_model.specs.Index.{Object as ObjectSlot}
@@ -17,16 +18,19 @@ use Rattle.tag_rule.specs.Shown.{Board}
 use Rattle.slab_cache.specs.Storage.{Pages, Object, Uncounted}
 use Rattle.round_check.proofs.Named.{by_bool}
 use Rattle.trace_play.specs.Live.{Content, Nothing, Stored, Live, held_of}
+use Rattle.trace_play.specs.Left.{word_at}
 use Rattle.trace_play.specs.Machine.{content_cell, is_counted}
+use Rattle.round_worker.specs.Cells.{first_some, kept_word}
 use Rattle.trace_play.specs.Alone.{put_all}
 use Rattle.trace_play.proofs.Entries.{first_true, second_true, find_below}
 use Rattle.round_worker.specs.declared.keys.Kept.{Kept}
 use Rattle.round_worker.specs.Kept.{IsKept, KeyList, content_of, live_of}
 use Rattle.round_worker.specs.Parting.{AreKept}
 use Rattle.round_worker.specs.Shown.{WorkerShown}
+use Rattle.round_worker.proofs.CellLemmas.{kept_found, more_found}
 use Rattle.round_worker.proofs.KeyLemmas.{live_put}
 use Rattle.reclaim.specs.State.{LockedShown}
-use Rattle.round_keys.specs.Stored.{IsAfter, IsCovered, counted_in}
+use Rattle.round_keys.specs.Stored.{IsAfter, IsCovered, counted_in, key_cells}
 
 -- ---- the first entry and the others
 
@@ -175,3 +179,27 @@ met_more locked old last key before least here q kept low found =
     let high : key ≤ q = least q after (ap is_some found) in
     let same_key : key ≡ q = omega arith in
     subst (λ (o : Option Kept). IfSome o (IsCovered locked)) (ap (λ k. find nat_cmp k old) same_key ∙ found) here)
+
+-- ---- words
+
+-- what holds of each entry holds of each value
+pub of_values : (P : Kept → Type 0) (es : KeyList) → All (λ (e : ℕ × Kept). P e.1) es → All P (values_of es)
+of_values P [] h = All-nil P
+of_values P (e ∷ es) h =
+    let each : ℕ × Kept → Type 0 = λ (e : ℕ × Kept). P e.1 in
+    All-cons P e.1 (values_of es) (All-head each e es h) (of_values P es (All-tail each e es h))
+
+pub words_found : (board : Board) (index : ℕ) (es : KeyList) → T (is_sorted nat_cmp es) → AreKept board es → first_some (kept_word index) (values_of es) ≡ word_at board.shape index (key_cells es)
+words_found board index [] up own = refl
+words_found board index (e ∷ es) up own =
+    ap₂ option_or (kept_found board index e.1 (kept_first board e es own)) (words_found board index es (second_true _ _ up) (kept_later board e es up own))
+    ∙ sym (more_found board.shape index (content_cell (content_of e.1)) (key_cells es))
+
+-- the first of two that is there
+pub some_first : {X : Type 0} (w r : Option X) → is_some w ≡ true → w ≡ option_or w r
+some_first None r is = let no : ⊥ = cc in absurd no
+some_first (Some x) r is = refl
+
+pub none_first : {X : Type 0} (w r : Option X) → is_some w ≡ false → r ≡ option_or w r
+none_first None r is = refl
+none_first (Some x) r is = let no : ⊥ = cc in absurd no

@@ -1,5 +1,7 @@
 -- What the store tells of its keys.
-use Rattle.std.specs.Prelude.{ℕ, ◌≡◌, ◌<◌, ⊤, Option, Some, None, IsTrue, count_by}
+use Rattle.std.specs.Prelude.{ℕ, ◌≡◌, ◌<◌, ⊤, Option, Some, None, IsTrue, List, count_by}
+use Rattle.std.specs.FinMap.Entries.{find}
+use Rattle.std.specs.Ordering.{nat_cmp}
 use Rattle.std.specs.List.{flat_map}
 use Rattle.tag_model.specs.Telling.{is_covered_by}
 use Rattle.tag_model.specs.Index.{Slot}
@@ -10,7 +12,8 @@ use Rattle.reclaim.specs.State.{LockedShown, part_of}
 use Rattle.trace_play.specs.Live.{Content, Live, held_of}
 use Rattle.trace_play.specs.Machine.{content_cell, is_counted}
 use Rattle.round_worker.specs.declared.keys.Kept.{Kept}
-use Rattle.round_worker.specs.Kept.{content_of}
+use Rattle.round_worker.specs.Cells.{IsOfChecked, kept_seat}
+use Rattle.round_worker.specs.Kept.{KeyList, content_of, live_of}
 
 -- a counted reference's tag is the kernel's, or a record of the list has it in its range
 abbrev pub IsCovered : LockedShown → Kept → Type 0
@@ -25,3 +28,11 @@ counted_in live = count_by (λ (entry : Slot × Held). is_counted entry.1) (flat
 abbrev pub IsAfter : Option ℕ → ℕ → Type 0
 IsAfter None key = ⊤
 IsAfter (Some last) key = last < key
+
+-- the references of the keys by cell
+abbrev pub key_cells : KeyList → List (Slot × Held)
+key_cells keys = flat_map (λ (entry : ℕ × Content). content_cell entry.1) (live_of keys)
+
+-- their cells are of tables of checked shapes
+abbrev pub AreOfChecked : KeyList → Type 0
+AreOfChecked keys = (key : ℕ) (kept : Kept) → find nat_cmp key keys ≡ Some kept → IsOfChecked (kept_seat kept)

@@ -6,6 +6,7 @@ mod laws;
 mod meeting;
 mod store;
 mod taking;
+mod words;
 
 pub use laws::{keys_come_back, named_keys_are_the_owners};
 pub use store::KeyStore;

@@ -9,3 +9,4 @@ pub mod Rounds
 pub mod TagLemmas
 pub mod Needs
 pub mod CountLemmas
+pub mod CellLemmas

@@ -3,3 +3,4 @@ pub mod Parting
 pub mod HooksOut
 pub mod Shown
 pub mod Working
+pub mod Cells

@@ -2,7 +2,7 @@ mod Begun
 mod DeskDealt
 mod EndNumbers
 pub mod LoadsAt
-mod PrintsAt
+pub mod PrintsAt
 mod Settled
 mod TurnedDesk
 mod TurnedLanes

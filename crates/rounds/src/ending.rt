@@ -1,8 +1,9 @@
-//! A run ends: what its last line says, and the CPUs back.
+//! A run ends: what its last line says, and what it leaves.
 
 ghost use Rattle.std.specs.Prelude.{◌≡◌, ◌^◌, ◌<◌, count_by, length, sum_by};
 ghost use Rattle.module_area.specs.Entries.{is_dead};
 ghost use Rattle.module_area.specs.declared.entry.Entry.{Entry};
+ghost use Rattle.reclaim.specs.State.{IsLocked};
 ghost use Rattle.round_worker.specs.Shown.{WorkerShown};
 ghost use Rattle.trace_play.specs.Machine.{live_count, slab_cells};
 ghost use Rattle.trace_play.specs.Printed.{dead_of};
@@ -10,6 +11,7 @@ ghost use Rattle.rounds.specs.Places.{IsSomewhere, IsThere, Place, machine_at};
 
 use crate::Desk;
 use crate::settling::is_dead;
+use plant::Left;
 use reclaim::Locked;
 use round_worker::Worker;
 use run_text::Done;
@@ -39,12 +41,26 @@ impl Desk {
         }
     }
 
-    /// Gives the CPUs of the table back.
-    pub fn into_cpus(self) -> Vec<CpuSeat>
-        ensures { result.items ≡ self.cpus.items }
+    /// Gives back the CPUs of the table, and what stands beside them.
+    pub fn into_left(self) -> (Vec<CpuSeat>, Left)
+        ensures cpus { result.0.items ≡ self.cpus.items }
+        ensures left { result.1 ≡ record { workers = self.workers; keys = self.keys; locked = self.locked } }
+        ensures locked { IsLocked self.locked }
     {
-        let Desk { cpus, .. } = self;
-        cpus
+        let Desk {
+            cpus,
+            workers,
+            keys,
+            locked,
+            ..
+        } = self;
+        locked.tell();
+        let left = Left {
+            workers,
+            keys,
+            locked,
+        };
+        (cpus, left)
     }
 }
 

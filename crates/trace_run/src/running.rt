@@ -1,23 +1,22 @@
 //! A trace run on a plant.
 
-ghost use Rattle.std.specs.Prelude.{ℕ, ◌≡◌, ◌++◌, [], Err, IfOk, IsTrue, None, Ok, OnOk, Some, count_by, false, sum_by};
+ghost use Rattle.std.specs.Prelude.{ℕ, ◌≡◌, ◌++◌, [], Bool, Err, IfOk, IsTrue, None, Ok, OnOk, Option, Some, count_by, false, sum_by};
 ghost use Rattle.std.specs.Option.{option_map};
 ghost use Rattle.input_form.specs.declared.code.Code.{Code};
-ghost use Rattle.tag_rule.specs.Shown.{Board};
 ghost use Rattle.plant.specs.Fresh.{FitsShape};
+ghost use Rattle.plant.specs.Table.{quiet_text};
 ghost use Rattle.round_check.specs.Walk.{rounds_of};
 ghost use Rattle.trace.specs.Formed.{IsFormedTrace};
 ghost use Rattle.trace.specs.declared.traces.Trace.{Trace};
-ghost use Rattle.trace_play.specs.Machine.{Machine};
+ghost use Rattle.trace_play.specs.Printed.{print_text};
 ghost use Rattle.trace_play.specs.Play.{done_text, is_round, ops_in, run_text, trace_played};
 ghost use Rattle.rounds.specs.Places.{IsSomewhere, IsThere, Place, machine_at};
-ghost use Rattle.rounds.specs.Turns.{StandsAt};
 ghost use Rattle.trace_run.specs.Items.{line_code};
-ghost use Rattle.trace_run.specs.Runs.{HasRun, IsBegun, IsRun};
+ghost use Rattle.trace_run.specs.Runs.{HasRun, IsBegun, IsEnded, IsRun};
 ghost use Rattle.trace_run.specs.declared.running.RunError.TheVariants.{Refused};
 
 use crate::items::play_items;
-use crate::outcome::Outcome;
+use crate::outcome::{Outcome, Refusal};
 use plant::Plant;
 use round_worker::Gate;
 use rounds::Desk;
@@ -68,6 +67,7 @@ pub fn run<R: Threads + Wait + Sync, G: Gate + Sync>(
     ensures text { OnOk result (((trace_played trace top).refused ≡ None) × (out.new.items ≡ out.old.items ++ run_text trace (trace_played trace top).played)) }
     ensures refused { (line : ℕ) (code : Code) → result ≡ Err (Refused line code) → ((trace_played trace top).refused ≡ Some (line, code)) × (out.new.items ≡ out.old.items) }
     ensures plant { IsRun result → HasRun (trace_played trace top).played.machine plant.old plant.new }
+    ensures printed { IsRun result → (kept : Bool) (some : Option ℕ) → quiet_text kept some plant.new ≡ print_text trace.sections kept some (trace_played trace top).played.machine }
 {
     let mut trace = trace;
     let rounds = rounds_in(&trace);
@@ -87,7 +87,7 @@ fn begin(alloc: Global, plant: &mut Plant, trace: &mut Trace) -> Result<Desk, Al
     requires fits { FitsShape plant.old.shape trace.old }
     ensures begun { IfOk result (IsBegun plant.old.shape trace.old) }
     ensures trace { trace.new ≡ record trace.old { sections = [] } }
-    ensures plant { OnOk result (plant.new ≡ record plant.old { fresh = false; cpus = [] }) }
+    ensures plant { OnOk result (plant.new ≡ record plant.old { fresh = false; cpus = []; left = None }) }
 {
     let sections = mem::replace(&mut trace.sections, Sections::new(alloc));
     let sections = Arc::new(alloc, sections)?;
@@ -96,7 +96,7 @@ fn begin(alloc: Global, plant: &mut Plant, trace: &mut Trace) -> Result<Desk, Al
     Ok(Desk::begin(alloc, started, sections, trace.area))
 }
 
-// The CPUs go back to the plant, and behind a trace that wasn't refused comes its last line.
+// The run answers, and its tokens go back to the plant.
 fn finish(
     plant: &mut Plant,
     outcome: Outcome,
@@ -105,21 +105,38 @@ fn finish(
     text: &mut Vec<u8>,
 ) -> Result<(), RunError>
     requires used { plant.old.fresh ≡ false }
-    requires somewhere { outcome.refused ≡ None → IsSomewhere outcome.desk }
+    requires ended { IsEnded plant.old.shape outcome.desk }
     ensures text { OnOk result ((outcome.refused ≡ None) × ((p : Place) → IsThere p outcome.desk → p.back ≡ [] → rounds ≡ count_by is_round p.trace.body → ops ≡ sum_by ops_in p.trace.body → text.new.items ≡ text.old.items ++ done_text p.trace.body (machine_at p))) }
     ensures refused { (line : ℕ) (code : Code) → result ≡ Err (Refused line code) → option_map line_code outcome.refused ≡ Some (line, code) }
-    ensures plant { (b : Board) (trace : Trace) (m : Machine) → b.shape ≡ plant.old.shape → StandsAt b trace m outcome.desk → HasRun m plant.old plant.new }
+    ensures plant { (p : Place) → IsThere p outcome.desk → p.board.shape ≡ plant.old.shape → HasRun (machine_at p) plant.old plant.new }
+    ensures printed { (p : Place) → IsThere p outcome.desk → (kept : Bool) (top : Option ℕ) → quiet_text kept top plant.new ≡ print_text p.trace.sections kept top (machine_at p) }
 {
     let Outcome { desk, refused } = outcome;
-    let ended = match refused {
+    let ended = end(&desk, refused, rounds, ops, text);
+    let (cpus, left) = desk.into_left();
+    plant.settle(cpus, left);
+    ended
+}
+
+// What a run answers. Behind a trace that wasn't refused comes its last line.
+fn end(
+    desk: &Desk,
+    refused: Option<Refusal>,
+    rounds: u64,
+    ops: u64,
+    text: &mut Vec<u8>,
+) -> Result<(), RunError>
+    requires somewhere { IsSomewhere desk.now }
+    ensures text { OnOk result ((refused ≡ None) × ((p : Place) → IsThere p desk.now → p.back ≡ [] → rounds ≡ count_by is_round p.trace.body → ops ≡ sum_by ops_in p.trace.body → text.new.items ≡ text.old.items ++ done_text p.trace.body (machine_at p))) }
+    ensures refused { (line : ℕ) (code : Code) → result ≡ Err (Refused line code) → option_map line_code refused ≡ Some (line, code) }
+{
+    match refused {
         Some(why) => Err(RunError::Refused {
             line: why.line,
             code: why.code,
         }),
-        None => write_end(&desk, rounds, ops, text),
-    };
-    plant.settle(desk.into_cpus());
-    ended
+        None => write_end(desk, rounds, ops, text),
+    }
 }
 
 // Appends the last line.

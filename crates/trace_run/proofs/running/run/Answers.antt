@@ -7,12 +7,13 @@ use Rattle.trace_run.specs.Items.{line_code}
 use Rattle.trace_run.proofs.Ran.{at_end, begins, has_run_from}
 use Rattle.trace_run.proofs.running.run.Goals as goal
 
-pub finish-requires-clause-somewhere : goal.finish-requires-clause-somewhere
-finish-requires-clause-somewhere g c = λ none.
+pub finish-requires-clause-ended : goal.finish-requires-clause-ended
+finish-requires-clause-ended g c =
     let b = c.in_ok-desk.ensures.begun in
     let s = begins c.args.plant.now.shape c.args.trace c.begin.new.trace c.as_slice-items.result.now c.in_ok-desk.desk c.requires.formed c.requires.passes c.in_ok-desk.ensures.trace c.as_slice-items.ensures b in
     let played = c.in_ok-outcome.ensures s in
-    record { place = at_end c.args.top b.board c.args.trace c.requires.formed c.requires.passes; there = played.stands }
+    let shape = ap (λ (p : PlantShown). p.shape) c.in_ok-desk.ensures.plant in
+    record { place = at_end c.args.top b.board c.args.trace c.requires.formed c.requires.passes; there = played.stands; shape = b.shape ∙ sym shape }
 
 pub returns-in_err-finish-clause-refused : goal.returns-in_err-finish-clause-refused
 returns-in_err-finish-clause-refused g c = λ line code e.
@@ -29,7 +30,7 @@ returns-in_err-finish-clause-plant g c = λ run.
     let played = c.in_ok-outcome.ensures s in
     let shape = ap (λ (p : PlantShown). p.shape) c.in_ok-desk.ensures.plant in
     has_run_from (trace_played c.args.trace c.args.top).played.machine c.args.plant.now c.begin.new.plant c.finish.new.plant shape
-    (c.in_err-finish.ensures.plant b.board c.args.trace (trace_played c.args.trace c.args.top).played.machine (b.shape ∙ sym shape) played.stands)
+    (c.in_err-finish.ensures.plant (at_end c.args.top b.board c.args.trace c.requires.formed c.requires.passes) played.stands (b.shape ∙ sym shape))
 
 pub returns-clause-text : goal.returns-clause-text
 returns-clause-text g c =
@@ -51,4 +52,18 @@ returns-clause-plant g c = λ run.
     let played = c.in_ok-outcome.ensures s in
     let shape = ap (λ (p : PlantShown). p.shape) c.in_ok-desk.ensures.plant in
     has_run_from (trace_played c.args.trace c.args.top).played.machine c.args.plant.now c.begin.new.plant c.finish.new.plant shape
-    (c.in_ok-finish.ensures.plant b.board c.args.trace (trace_played c.args.trace c.args.top).played.machine (b.shape ∙ sym shape) played.stands)
+    (c.in_ok-finish.ensures.plant (at_end c.args.top b.board c.args.trace c.requires.formed c.requires.passes) played.stands (b.shape ∙ sym shape))
+
+pub returns-in_err-finish-clause-printed : goal.returns-in_err-finish-clause-printed
+returns-in_err-finish-clause-printed g c = λ run kept some.
+    let b = c.in_ok-desk.ensures.begun in
+    let s = begins c.args.plant.now.shape c.args.trace c.begin.new.trace c.as_slice-items.result.now c.in_ok-desk.desk c.requires.formed c.requires.passes c.in_ok-desk.ensures.trace c.as_slice-items.ensures b in
+    let played = c.in_ok-outcome.ensures s in
+    c.in_err-finish.ensures.printed (at_end c.args.top b.board c.args.trace c.requires.formed c.requires.passes) played.stands kept some
+
+pub returns-clause-printed : goal.returns-clause-printed
+returns-clause-printed g c = λ run kept some.
+    let b = c.in_ok-desk.ensures.begun in
+    let s = begins c.args.plant.now.shape c.args.trace c.begin.new.trace c.as_slice-items.result.now c.in_ok-desk.desk c.requires.formed c.requires.passes c.in_ok-desk.ensures.trace c.as_slice-items.ensures b in
+    let played = c.in_ok-outcome.ensures s in
+    c.in_ok-finish.ensures.printed (at_end c.args.top b.board c.args.trace c.requires.formed c.requires.passes) played.stands kept some
