@@ -17,3 +17,6 @@ pub use homing::{kfree, take_home};
 pub use laws::the_classes;
 pub use node::SlabNode;
 pub use object::{Back, Obj, is_counted};
+
+#[cfg(test)]
+mod tests;

@@ -22,11 +22,11 @@ use tag_rule::{part, unite};
 /// A slab: a block that is cut into places of a class, and a vector of cells for them, if there was one.
 #[derive(Drop)]
 pub(crate) struct Slab {
-    class: Class,
-    // A bit for each place, set where it is free.
-    free: u64,
+    pub(crate) class: Class,
+    /// A bit for each place, set where it is free.
+    pub(crate) free: u64,
     block: Block,
-    vector: Option<Vector>,
+    pub(crate) vector: Option<Vector>,
 }
 
 impl Model for Slab {
