@@ -1,12 +1,11 @@
 -- The cells of a slab's vector: which are in its pool as places are taken and freed.
-use Rattle.std.proofs.Common.{ℕ, ◌≡◌, ◌≢◌, ◌+◌, ◌-◌, ◌*◌, ◌^◌, ◌<◌, ◌≤◌, ◌⊎◌, ◌&&◌, ◌||◌, Bool, true, false, not, IsTrue, Option, Some, None, option_map, refl, sym, ap, ◌∙◌, subst, inl, inr, arith, leb-true, ltb-true}
+use Rattle.std.proofs.Common.{ℕ, ◌≡◌, ◌≢◌, ◌+◌, ◌<◌, ◌||◌, false, not, IsTrue, sym, ap, ◌∙◌, subst, inl, inr, arith}
 use Rattle.std.specs.Int.{bit_at}
 use Rattle.std.proofs.lemmas.Bool.{and_from, cases_eq, cases_lt, le-leb, lt-ltb, or_left, or_right}
-use Rattle.std.proofs.lemmas.Option.{same_Some, none-some}
 use Rattle.tag_model.specs.Index.{object_index}
 use Rattle.tag_model.specs.WordState.{in_range}
-use Rattle.tag_rule.specs.Shown.{Board, PoolShown, has}
-use Rattle.page_ext.proofs.Cells.{out_of_range, range_high, range_low}
+use Rattle.tag_rule.specs.Shown.{Board, has}
+use Rattle.page_ext.proofs.Cells.{out_of_range}
 use Rattle.slab_ext.specs.Vectors.{IsWhole, VectorShown}
 use Rattle.tag_model.specs.Shape.{IsChecked}
 use Rattle.slab_cache.specs.Tables.{GivesCell, HasFree, HasCell, TakesCell}

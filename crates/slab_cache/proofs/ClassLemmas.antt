@@ -1,6 +1,5 @@
 -- Classes by their numbers, and orders by size.
-use Rattle.std.proofs.Common.{lit<, ℕ, zero, suc, ◌≡◌, ◌≢◌, ◌==◌, ◌*◌, ◌%◌, ◌^◌, ◌<◌, ◌≤◌, Bool, true, false, nat_le, unwrap_or, Option, Some, None, option_map, position, refl, sym, ap, ◌∙◌, arith, inl, inr}
-use Rattle.std.specs.List.{find, range_with_len}
+use Rattle.std.proofs.Common.{lit<, ℕ, zero, suc, ◌≡◌, ◌≢◌, ◌==◌, ◌*◌, ◌%◌, ◌^◌, ◌<◌, ◌≤◌, false, nat_le, unwrap_or, Some, None, position, refl, sym, ap, ◌∙◌, arith, inl, inr}
 use Rattle.std.proofs.Math.Pow.{pow_mono}
 use Rattle.std.proofs.lemmas.Bool.{cases_lt, le-leb, lt-leb, ne_eqb}
 use Rattle.page_ext.specs.Blocks.{page_bytes}

@@ -1,7 +1,7 @@
 -- What is given is what the meaning gives.
-use Rattle.std.proofs.Common.{ℕ, ◌≡◌, ◌≢◌, ◌+◌, ◌^◌, ◌<◌, ◌≤◌, ◌==◌, ◌↔◌, ◌++◌, replicate, Bool, true, false, not, is_none, IsTrue, IfSome, List, [], length, map, get_or, slice_get, slice_set, position, unwrap_or, Option, Some, None, option_map, refl, sym, ap, ◌∙◌, subst, inl, inr, arith}
+use Rattle.std.proofs.Common.{ℕ, ◌≡◌, ◌+◌, ◌^◌, ◌<◌, ◌≤◌, ◌==◌, ◌↔◌, ◌++◌, replicate, Bool, true, false, not, IfSome, List, length, get_or, slice_get, slice_set, position, Option, Some, None, option_map, refl, sym, ap, ◌∙◌, subst, arith}
 use Rattle.std.specs.List.{list_any}
-use Rattle.std.proofs.lemmas.List.{get_or-replicate, get_or-set_same, length-map, length-replicate, length-set, map-set}
+use Rattle.std.proofs.lemmas.List.{get_or-replicate, get_or-set_same, length-map, length-replicate}
 use Rattle.std.proofs.lemmas.List.Folds.{list_any_at}
 use Rattle.std.proofs.lemmas.List.Quantifiers.{position-Some}
 use Rattle.std.proofs.lemmas.Bool.{and_parts, eqb-true, false≢true}
@@ -11,33 +11,32 @@ use Rattle.std.proofs.lemmas.Option.{none-some, same_Some, slice_get_within}
 use Rattle.tag_model.specs.declared.state.Tag.{Tag}
 use Rattle.tag_model.specs.declared.state.Held.{Held}
 use Rattle.tag_model.specs.declared.state.Held.TheVariants as held
-use Rattle.tag_model.specs.Index.{object_index, page_index}
+use Rattle.tag_model.specs.Index.{object_index}
 use Rattle.tag_model.specs.Moves.{Move}
 use Rattle.tag_model.specs.Shape.{IsChecked}
 use Rattle.tag_model.specs.RefMoves.{open_moves, reference_to, words_after_move}
-use Rattle.tag_rule.specs.Shown.{Board, CellShown, CpuShown, PoolShown}
+use Rattle.tag_rule.specs.Shown.{Board, CpuShown}
 use Rattle.tag_ref.specs.Refs.{moved_by}
-use Rattle.buddy.specs.Frames.{least_start, marked}
+use Rattle.buddy.specs.Frames.{least_start}
 use Rattle.buddy.proofs.FrameLemmas.{all_within, least_told, length-marked}
-use Rattle.page_ext.specs.Blocks.{Block, Node, page_bytes, with_frames}
+use Rattle.page_ext.specs.Blocks.{Block, page_bytes, with_frames}
 use Rattle.page_ext.specs.Paging.{GivesBlock}
-use Rattle.page_ext.specs.Shown.{BlockShown, Fits, NodeShown}
+use Rattle.page_ext.specs.Shown.{BlockShown, NodeShown}
 use Rattle.slab_ext.specs.Vectors.{VectorShown, VectorsShown}
 use Rattle.slab_cache.specs.Calls.{Gives, IsOpenIn, IsSlabBlock, MakesSlab, TakesPlaceOf, with_made_slab}
 use Rattle.slab_cache.specs.Classes.{objects_in, slab_order}
 use Rattle.slab_cache.specs.Giving.{Given, block_from, given_block, object_from, object_from_new, start_in, with_new_slab}
-use Rattle.slab_cache.specs.Shown.{IsNow, IsOfTable, HasOwnCell, SlabNodeShown, SlabShown, Stands, Suits, cell_of, slab_block, state_of, storage_of, with_reference}
+use Rattle.slab_cache.specs.Shown.{IsNow, IsOfTable, SlabNodeShown, SlabShown, Stands, Suits, cell_of, state_of, storage_of, with_reference}
 use Rattle.slab_cache.specs.Slabs.{NodeState, Slab, free_place, is_open, lowest_vector, new_slab, open_frame, with_pages, slab_at, slab_held, slab_tag, with_place, with_slab, with_vector}
 use Rattle.slab_cache.specs.Storage as storage
 use Rattle.slab_cache.specs.Storage.{Storage, held_of, object_at}
 use Rattle.slab_cache.specs.Tables.{AreSlabs, IsOpenAt, IsSlabAt, TakesPlace, is_open_slab, place_in, slab_in, with_slab_state}
 use Rattle.slab_cache.specs.declared.object.Obj.{Obj}
-use Rattle.slab_cache.specs.declared.object.Stored.{Stored}
 use Rattle.slab_cache.specs.declared.object.Stored.TheVariants.{Pages, InSlab}
 use Rattle.slab_cache.specs.declared.place.Place.{Place}
 use Rattle.slab_cache.specs.declared.place.PlaceCell.{PlaceCell}
 use Rattle.slab_cache.proofs.TableLemmas.{position_of_map}
-use Rattle.slab_cache.proofs.NodeLemmas.{Found, VectorTaken, are_set, find_slab, length-with_out, number_in, same_lowest, shown, slab_state, slab_whole, stands_set, state_out, still_in, with_out}
+use Rattle.slab_cache.proofs.NodeLemmas.{VectorTaken, are_set, find_slab, length-with_out, number_in, same_lowest, shown, slab_state, slab_whole, stands_set, state_out, still_in, with_out}
 
 -- ---- a slab changes: its class, its block and its vector stay, or it goes
 

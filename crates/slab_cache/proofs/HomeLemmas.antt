@@ -1,17 +1,15 @@
 -- What comes home is what the meaning takes home.
-use Rattle.std.proofs.Common.{ℕ, ◌≡◌, ◌≢◌, ◌+◌, ◌^◌, ◌<◌, ◌≤◌, ◌++◌, Bool, true, false, cond, not, is_none, List, [], length, map, slice_get, slice_set, Option, Some, None, option_map, refl, sym, ap, ◌∙◌, subst, inl, inr, arith}
-use Rattle.std.proofs.lemmas.Bool.{false≢true}
+use Rattle.std.proofs.Common.{ℕ, ◌≡◌, ◌+◌, ◌^◌, ◌≤◌, ◌++◌, Bool, true, false, cond, is_none, List, [], length, map, slice_get, slice_set, Option, Some, None, option_map, refl, sym, ap, ◌∙◌, subst, inl, inr}
 use Rattle.std.proofs.lemmas.List.{length-set, map-set}
 use Rattle.std.proofs.lemmas.Option.{none-some, same_Some}
 use Rattle.tag_model.specs.declared.state.Held.{Held}
 use Rattle.tag_model.specs.declared.state.Held.TheVariants as held
 use Rattle.tag_model.specs.Index.{object_index}
-use Rattle.tag_model.specs.Moves.{Move}
 use Rattle.tag_model.specs.RefMoves.{close_moves}
-use Rattle.tag_rule.specs.Shown.{Board, CellShown, CpuShown, PoolShown}
+use Rattle.tag_rule.specs.Shown.{Board, CpuShown, PoolShown}
 use Rattle.tag_ref.specs.Refs.{moved_by}
 use Rattle.page_ext.specs.Blocks.{with_frames}
-use Rattle.page_ext.specs.Shown.{BlockShown, Fits, NodeShown, holding}
+use Rattle.page_ext.specs.Shown.{NodeShown}
 use Rattle.slab_ext.specs.Vectors.{VectorShown, VectorsShown}
 use Rattle.slab_ext.proofs.Slots.{slice_get-set}
 use Rattle.slab_cache.specs.Calls.{ComesHome, IsOf, IsPlace, ReturnsPlace}
@@ -19,13 +17,12 @@ use Rattle.slab_cache.specs.Classes.{slab_order}
 use Rattle.slab_cache.specs.Homing.{Taken, come_home, place_home, without_slab}
 use Rattle.slab_cache.specs.Shown.{IsNow, IsOfTable, SlabNodeShown, SlabShown, Stands, Suits, cell_of, state_of, storage_of, with_reference}
 use Rattle.slab_cache.specs.Slabs.{NodeState, Slab, is_used, slab_at, slab_held, with_pages, with_place, with_slab, with_vector}
-use Rattle.slab_cache.specs.Storage.{Storage}
 use Rattle.slab_cache.specs.Tables.{AreSlabs, HasPlace, IsSlabAt, LosesPlace, place_in, slab_in, slab_without, with_back, with_slab_state}
-use Rattle.slab_cache.specs.declared.object.Stored.TheVariants.{Pages, InSlab}
+use Rattle.slab_cache.specs.declared.object.Stored.TheVariants.{InSlab}
 use Rattle.slab_cache.specs.declared.place.Place.{Place}
 use Rattle.slab_cache.specs.declared.place.PlaceCell.{PlaceCell}
-use Rattle.slab_cache.proofs.GivenLemmas.{Changed, Same, changed, moved_twice, stands_pages}
-use Rattle.slab_cache.proofs.NodeLemmas.{Found, find_slab, number_in, shown, slab_state, slab_whole}
+use Rattle.slab_cache.proofs.GivenLemmas.{Changed, Same, changed, stands_pages}
+use Rattle.slab_cache.proofs.NodeLemmas.{find_slab, number_in, shown, slab_state, slab_whole}
 
 abbrev place_of : ℕ → ℕ → ℕ → Option PlaceCell → Place
 place_of home frame at cell = record { home = home; frame = frame; place = at; cell = cell }

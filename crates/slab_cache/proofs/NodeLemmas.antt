@@ -1,14 +1,13 @@
 -- A node with slabs, as it is shown and as the meaning has it, while a slab or a vector changes.
-use Rattle.std.proofs.Common.{ℕ, zero, suc, ◌≡◌, ◌≢◌, ◌+◌, ◌^◌, ◌<◌, ◌≤◌, ◌↔◌, Bool, true, false, not, is_none, is_some, IsNone, IfSome, ◌⊎◌, List, [], ◌∷◌, length, map, get_or, slice_get, slice_set, replicate, position, Option, Some, None, option_map, refl, sym, ap, ◌∙◌, subst, inl, inr, arith}
-use Rattle.std.proofs.lemmas.List.{get_or-map, length-set, length-replicate, map-set}
-use Rattle.std.proofs.lemmas.Option.{get_or_from_slice_get, none-some, same_Some, slice_get-map, slice_get_cases, slice_get_within}
+use Rattle.std.proofs.Common.{ℕ, zero, suc, ◌≡◌, ◌<◌, ◌≤◌, ◌↔◌, Bool, true, not, is_none, is_some, IsNone, IfSome, ◌⊎◌, List, [], ◌∷◌, length, map, get_or, slice_get, slice_set, replicate, position, Option, Some, None, option_map, refl, sym, ap, ◌∙◌, subst, inl, inr}
+use Rattle.std.proofs.lemmas.List.{length-set, length-replicate, map-set}
+use Rattle.std.proofs.lemmas.Option.{get_or_from_slice_get, none-some, same_Some, slice_get-map, slice_get_cases}
 use Rattle.tag_rule.specs.Shown.{Board, PoolShown}
 use Rattle.page_ext.specs.Shown.{NodeShown}
-use Rattle.slab_ext.specs.Vectors.{IsWhole, Takes, VectorShown, VectorsShown, lowest, with_vector as with_pool}
+use Rattle.slab_ext.specs.Vectors.{IsWhole, Takes, VectorShown, VectorsShown, lowest}
 use Rattle.slab_ext.proofs.Slots.{slice_get-set}
-use Rattle.slab_cache.specs.Classes.{slab_order}
-use Rattle.slab_cache.specs.Shown.{IsNow, SlabNodeShown, SlabShown, Stands, state_of}
-use Rattle.slab_cache.specs.Slabs.{NodeState, Slab, lowest_vector, new_slab, slab_at, with_slab, with_vector}
+use Rattle.slab_cache.specs.Shown.{SlabNodeShown, SlabShown, Stands, state_of}
+use Rattle.slab_cache.specs.Slabs.{NodeState, Slab, lowest_vector, slab_at, with_slab, with_vector}
 use Rattle.slab_cache.specs.Tables.{AreSlabs, IsSlabAt, slab_in}
 use Rattle.slab_cache.proofs.TableLemmas.{position_of_map}
 

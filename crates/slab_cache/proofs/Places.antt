@@ -1,16 +1,14 @@
 -- The places of a slab as bits: which is the lowest that is free, whether one is, and how they change.
-use Rattle.std.proofs.Common.{ℕ, zero, suc, ◌≡◌, ◌≢◌, ◌+◌, ◌-◌, ◌*◌, ◌/◌, ◌%◌, ◌^◌, ◌<◌, ◌≤◌, ◌==◌, ◌&&◌, Bool, true, false, not, IsTrue, List, length, map, get_or, slice_get, slice_set, replicate, position, unwrap_or, Option, Some, None, refl, sym, ap, ◌∙◌, subst, inl, inr, arith, bit_or, bit_and, w64}
+use Rattle.std.proofs.Common.{ℕ, ◌≡◌, ◌≢◌, ◌+◌, ◌-◌, ◌*◌, ◌/◌, ◌%◌, ◌^◌, ◌<◌, ◌≤◌, ◌==◌, Bool, true, false, not, get_or, slice_set, replicate, position, unwrap_or, refl, sym, ap, ◌∙◌, inl, inr, arith, bit_or, bit_and, w64}
 use Rattle.std.specs.Int.{bit_at, bit_not, trailing_zeros}
-use Rattle.std.specs.List.{list_any, range_with_len}
+use Rattle.std.specs.List.{list_any}
 use Rattle.std.proofs.Math.Pow.{pow_mono}
 use Rattle.std.proofs.lemmas.Bool.{cases_eq, cases_lt, false≢true, eq-eqb, ne_eqb}
 use Rattle.std.proofs.lemmas.List.{same_lists, get_or-replicate, length-replicate}
 use Rattle.std.proofs.lemmas.List.Elements.{All-from_get_or}
 use Rattle.std.proofs.lemmas.List.Folds.{list_any_at, list_any_none}
 use Rattle.std.proofs.lemmas.Nat.Bits.{bit_at-lt, bit_at-zero, bit_at_and, bit_at-trailing_zeros, bit_at_cat_high, bit_at_ones, bit_at_ones_above, bit_at_set_same, bit_at_set_other, bit_at_clear_same, bit_at_clear_other, same_from_bits, same_from_bits_below}
-use Rattle.slab_cache.specs.Bits.{class_at, places_of}
-use Rattle.slab_cache.specs.Classes.{objects_in}
-use Rattle.slab_cache.specs.Slabs.{Slab, free_place, is_used, with_place}
+use Rattle.slab_cache.specs.Bits.{places_of}
 use Rattle.slab_cache.proofs.Marks.{first_mark, length_marks, mark_at, set_mark}
 
 taken_at : ℕ → ℕ → Bool

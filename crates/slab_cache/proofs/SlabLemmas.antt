@@ -1,5 +1,5 @@
 -- A slab, as it is shown, while its bits and its vector change.
-use Rattle.std.proofs.Common.{ℕ, ◌≡◌, ◌≢◌, ◌+◌, ◌-◌, ◌*◌, ◌^◌, ◌<◌, ◌≤◌, ◌==◌, ◌&&◌, Bool, true, false, not, IsTrue, IfSome, List, length, map, slice_get, slice_set, Option, Some, None, option_map, position, unwrap_or, refl, sym, ap, ◌∙◌, subst, inl, inr, arith, w64}
+use Rattle.std.proofs.Common.{ℕ, ◌≡◌, ◌≢◌, ◌-◌, ◌^◌, ◌<◌, ◌==◌, ◌&&◌, Bool, true, false, not, IsTrue, IfSome, List, slice_get, slice_set, Option, Some, None, option_map, refl, sym, ap, ◌∙◌, subst, inl, inr, arith, w64}
 use Rattle.std.specs.Int.{bit_at, trailing_zeros}
 use Rattle.std.specs.List.{list_any}
 use Rattle.std.proofs.lemmas.Bool.{cases_eq, eq-eqb, false≢true}
@@ -13,14 +13,14 @@ use Rattle.slab_ext.specs.Vectors.{IsWhole, VectorShown}
 use Rattle.slab_cache.specs.Bits.{class_at, places_of}
 use Rattle.slab_cache.specs.Classes.{objects_in}
 use Rattle.slab_cache.specs.Shown.{SlabShown, slab_block}
-use Rattle.slab_cache.specs.Slabs.{Slab, free_place, is_open, is_used, new_slab, with_place}
-use Rattle.slab_cache.specs.Tables.{FitsOne, FitsCell, NoneFits, OneFits, GivesOne, GivesCell, NoneGiven, OneGiven, HasFree, IsSlab, TakesCell, TakesOne, NoCell, OneCell, place_in, shown_slab, with_slab_state}
+use Rattle.slab_cache.specs.Slabs.{free_place, is_used, new_slab, with_place}
+use Rattle.slab_cache.specs.Tables.{FitsOne, NoneFits, OneFits, GivesOne, NoneGiven, OneGiven, HasFree, IsSlab, TakesOne, NoCell, OneCell, place_in, shown_slab, with_slab_state}
 use Rattle.slab_cache.specs.declared.place.Place.{Place}
 use Rattle.slab_cache.specs.declared.place.PlaceCell.{PlaceCell}
 use Rattle.slab_cache.proofs.Cells.{all_in, free_after_give, free_after_take, whole_free}
 use Rattle.slab_cache.proofs.ClassLemmas.{classes_differ, objects_few}
 use Rattle.slab_cache.proofs.Marks.{length_marks}
-use Rattle.slab_cache.proofs.Places.{Beyond, Gives, Lowest, Takes, all_free_places, all_set, any_free, any_taken, fits_word, given_in, lowest, taken_out}
+use Rattle.slab_cache.proofs.Places.{Gives, Lowest, Takes, all_set, any_free, any_taken, fits_word, lowest}
 
 abbrev number_in : Option VectorShown → Option ℕ
 number_in = option_map (λ (v : VectorShown). v.number)

@@ -1,7 +1,6 @@
 -- What the calls give, and what they need of the storage that they are given.
 use Rattle.std.specs.List.{list_any}
 use Rattle.std.specs.Prelude.{ℕ, ◌≡◌, ◌+◌, ◌^◌, ◌≤◌, IsTrue, not, Bool, true, false, Option, Some, None, List, ◌++◌, length, slice_get, if◌then◌else◌}
-use Rattle.tag_model.specs.declared.state.Tag.{Tag}
 use Rattle.tag_model.specs.declared.state.Held.{Held}
 use Rattle.tag_model.specs.declared.state.Held.TheVariants as held
 use Rattle.tag_model.specs.Moves.{Move}

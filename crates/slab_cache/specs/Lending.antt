@@ -4,7 +4,6 @@ use Rattle.std.specs.Borrow.{LendsIf, MutBor, Fml}
 use Rattle.tag_rule.specs.Shown.{CellShown}
 use Rattle.tag_rule.specs.contracts.cells.CellSeat.{the_row as cell_row}
 use Rattle.page_ext.specs.Lending.{with_cell}
-use Rattle.page_ext.specs.Shown.{NodeShown}
 use Rattle.slab_cache.specs.declared.object.Obj.{Obj}
 use Rattle.slab_cache.specs.declared.object.Stored.{Stored}
 use Rattle.slab_cache.specs.declared.object.Stored.TheVariants.{Pages, InSlab}

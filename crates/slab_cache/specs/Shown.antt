@@ -7,10 +7,9 @@ use Rattle.tag_rule.specs.Shown.{Board, CellShown, PoolShown}
 use Rattle.page_ext.specs.Shown.{NodeShown, BlockShown, Fits, block_of, holding}
 use Rattle.slab_ext.specs.Vectors.{VectorsShown}
 use Rattle.slab_cache.specs.Classes.{slab_order}
-use Rattle.slab_cache.specs.Slabs.{Slab, NodeState, slab_at, slab_held}
+use Rattle.slab_cache.specs.Slabs.{Slab, NodeState, slab_held}
 use Rattle.slab_cache.specs.Storage as storage
 use Rattle.slab_cache.specs.Storage.{Storage, object_at}
-use Rattle.slab_cache.specs.declared.object.Obj.{Obj}
 use Rattle.slab_cache.specs.declared.object.Stored.{Stored}
 use Rattle.slab_cache.specs.declared.object.Stored.TheVariants.{Pages, InSlab}
 use Rattle.slab_cache.specs.declared.place.Place.{Place}

@@ -1,7 +1,9 @@
 mod desk;
+mod mixed;
 mod script;
 
 use self::desk::new_desks;
+use self::mixed::{FRAMES, VECTORS, free_rest, give_again, give_first};
 use self::script::{Step, play};
 use crate::{ObjError, is_counted};
 use std::test::Fail;
@@ -164,4 +166,13 @@ fn place_comes_home(rt: HostRuntime) -> Result<(), Fail> {
             give(1, 9, 2, (0, 0, Some(0))),
         ],
     )
+}
+
+// 200 objects of mixed classes, freed in another order than they were given in.
+#[test]
+fn two_hundred_objects(rt: HostRuntime) -> Result<(), Fail> {
+    let (mut desk, _other) = new_desks(rt.alloc(), FRAMES, VECTORS)?;
+    give_first(&rt, &mut desk)?;
+    give_again(&rt, &mut desk)?;
+    free_rest(&rt, &mut desk)
 }

@@ -1,5 +1,4 @@
 use Rattle.std.proofs.Common.{ℕ, ◌<◌, ◌≤◌, sym, subst, below_more, arith}
-use Rattle.page_ext.specs.Blocks.{page_bytes}
 use Rattle.slab_cache.proofs.ClassLemmas.{order_found, order_last, page_shift}
 use Rattle.slab_cache.proofs.class.order_of.Goals as goal
 

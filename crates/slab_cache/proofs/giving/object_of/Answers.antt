@@ -1,6 +1,6 @@
-use Rattle.std.proofs.Common.{ℕ, ◌≡◌, ◌↔◌, false, true, IsErr, IfOk, None, Option, Some, position, sym, ap, ◌∙◌, subst}
+use Rattle.std.proofs.Common.{◌≡◌, ◌↔◌, false, true, IsErr, IfOk, None, position, sym, ap, ◌∙◌, subst}
 use Rattle.slab_cache.specs.Bits.{class_at}
-use Rattle.slab_cache.specs.Calls.{Gives, IsOpenIn}
+use Rattle.slab_cache.specs.Calls.{Gives}
 use Rattle.slab_cache.specs.Classes.{slab_order}
 use Rattle.slab_cache.specs.Giving.{object_from_new, slab_or_new, start_in}
 use Rattle.slab_cache.specs.Shown.{SlabNodeShown, state_of}

@@ -1,5 +1,4 @@
 use Rattle.std.proofs.Common.{sym, ap, ◌∙◌, subst}
-use Rattle.tag_rule.specs.Shown.{CpuShown}
 use Rattle.slab_cache.specs.Bits.{class_at}
 use Rattle.slab_cache.specs.Calls.{IsOpenIn}
 use Rattle.slab_cache.specs.Shown.{state_of}

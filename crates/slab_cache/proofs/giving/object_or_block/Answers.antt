@@ -1,4 +1,4 @@
-use Rattle.std.proofs.Common.{◌≡◌, ◌↔◌, IsErr, IfOk, None, Option, subst}
+use Rattle.std.proofs.Common.{◌≡◌, ◌↔◌, IsErr, IfOk, None, subst}
 use Rattle.slab_cache.specs.Calls.{Gives}
 use Rattle.slab_cache.specs.Giving.{object_or_block}
 use Rattle.slab_cache.specs.Shown.{state_of}

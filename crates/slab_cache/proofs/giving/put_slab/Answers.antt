@@ -1,4 +1,4 @@
-use Rattle.std.proofs.Common.{ℕ, Some, slice_set, sym, ap, ◌∙◌, subst}
+use Rattle.std.proofs.Common.{Some, slice_set, sym, ap, ◌∙◌, subst}
 use Rattle.slab_cache.specs.Bits.{class_at}
 use Rattle.slab_cache.specs.Calls.{IsSlabBlock, with_made_slab}
 use Rattle.slab_cache.specs.Shown.{IsNow, Stands, state_of}

@@ -1,4 +1,4 @@
-use Rattle.std.proofs.Common.{Option, sym, subst}
+use Rattle.std.proofs.Common.{sym, subst}
 use Rattle.tag_model.specs.Shape.{IsChecked}
 use Rattle.slab_cache.specs.Bits.{class_at}
 use Rattle.slab_cache.specs.Calls.{IsOpenIn, TakesPlaceOf}

@@ -1,7 +1,6 @@
-use Rattle.std.proofs.Common.{ℕ, ◌≡◌, ◌+◌, ◌^◌, ◌≤◌, false, IfSome, Option, Some, length, sym, ap, ◌∙◌, subst}
+use Rattle.std.proofs.Common.{◌≡◌, ◌+◌, ◌^◌, ◌≤◌, false, IfSome, length, sym, ap, ◌∙◌, subst}
 use Rattle.page_ext.specs.Blocks.{with_frames}
 use Rattle.page_ext.specs.Shown.{BlockShown, NodeShown}
-use Rattle.slab_ext.specs.Vectors.{VectorShown}
 use Rattle.slab_cache.specs.Classes.{slab_order}
 use Rattle.slab_cache.specs.Shown.{IsNow, SlabNodeShown, Stands, state_of}
 use Rattle.slab_cache.specs.Slabs.{with_pages, with_vector}

@@ -1,4 +1,4 @@
-use Rattle.std.proofs.Common.{Option, Some, None, sym, subst}
+use Rattle.std.proofs.Common.{Some, sym, subst}
 use Rattle.slab_cache.specs.Tables.{GivesOne, OneGiven}
 use Rattle.slab_cache.proofs.SlabLemmas.{nothing_given}
 use Rattle.slab_cache.proofs.slab.give_cell.Goals as goal

@@ -1,4 +1,4 @@
-use Rattle.std.proofs.Common.{Option, Some, None, sym, subst}
+use Rattle.std.proofs.Common.{Some, None, sym, subst}
 use Rattle.slab_cache.specs.Tables.{NoCell, OneCell, TakesOne}
 use Rattle.slab_cache.proofs.slab.take_cell.Goals as goal
 

@@ -1,4 +1,4 @@
-use Rattle.std.proofs.Common.{List, ℕ, Bool, MatchOption, position, ap, ◌∙◌, subst}
+use Rattle.std.proofs.Common.{MatchOption, position, ap, ◌∙◌, subst}
 use Rattle.buddy.specs.Bits.{HasNoRun, IsLeastRun}
 use Rattle.slab_cache.proofs.FrameSets.{lowest_is}
 use Rattle.slab_cache.proofs.frame_set.FrameSet.lowest.Goals as goal

@@ -1,4 +1,4 @@
-use Rattle.std.proofs.Common.{ℕ, ◌≡◌, ◌+◌, ◌/◌, replicate, rules}
+use Rattle.std.proofs.Common.{◌≡◌, ◌+◌, ◌/◌, replicate, rules}
 use Rattle.slab_cache.proofs.FrameSets.{fresh_set, fresh_is}
 use Rattle.slab_cache.proofs.frame_set.FrameSet.new.Goals as goal
 

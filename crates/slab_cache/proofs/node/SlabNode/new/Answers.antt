@@ -1,4 +1,4 @@
-use Rattle.std.proofs.Common.{ℕ, None, replicate, ap, ◌∙◌}
+use Rattle.std.proofs.Common.{None, replicate, ap, ◌∙◌}
 use Rattle.slab_cache.proofs.NodeLemmas.{fresh_stands}
 use Rattle.slab_cache.proofs.node.SlabNode.new.Goals as goal
 

@@ -1,6 +1,5 @@
-use Rattle.std.proofs.Common.{ℕ, ◌≡◌, ◌<◌, refl, sym, ap, ◌∙◌, subst, w64}
+use Rattle.std.proofs.Common.{◌≡◌, refl, sym, subst, w64}
 use Rattle.std.specs.Int.{trailing_zeros}
-use Rattle.tag_rule.specs.Shown.{Board}
 use Rattle.tag_model.specs.Shape.{IsChecked}
 use Rattle.slab_cache.specs.Bits.{class_at}
 use Rattle.slab_cache.specs.Classes.{objects_in}
