@@ -2,3 +2,4 @@ pub mod OwnersNamed
 pub mod ComingBack
 pub mod HandLemmas
 pub mod StoredLemmas
+pub mod PageLemmas

@@ -1,3 +1,4 @@
 pub mod Handed
 pub mod Handing
+pub mod Pages
 pub mod Stored

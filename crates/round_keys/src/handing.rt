@@ -27,7 +27,7 @@ impl KeyStore {
         ensures rest { OnOk result (live_of self.new ≡ kept (λ key. not (is_handed ops.now key)) (live_of self.old)) }
         ensures still { (board : Board) → AreKept board self.old → OnOk result (AreKept board self.new) }
     {
-        let _count = self.kept.len();
+        self.tell();
         for on in ops {
             self.hand_op(on.op, on.cpu, workers)?;
         }

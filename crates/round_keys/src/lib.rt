@@ -4,6 +4,7 @@
 mod handing;
 mod laws;
 mod meeting;
+mod pages;
 mod store;
 mod taking;
 mod words;

@@ -1,19 +1,17 @@
-//! What the store's cells tell.
+//! Keys meet the module list, and tell how many of their references are counted.
 
-ghost use Rattle.std.specs.Prelude.{◌≡◌, ◌≤◌, ◌<◌, ℕ, All, IfNone, IfSome, IsSome, None};
-ghost use Rattle.std.specs.FinMap.Entries.{find};
-ghost use Rattle.std.specs.Ordering.{nat_cmp};
+ghost use Rattle.std.specs.Prelude.{◌≡◌, ◌*◌, ◌≤◌, ℕ, All, IfSome, count_by, length, map};
 ghost use Rattle.trace_play.specs.Live.{held_of};
 ghost use Rattle.trace_play.specs.Machine.{is_counted};
 ghost use Rattle.round_worker.specs.Kept.{IsKept, content_of, live_of};
+ghost use Rattle.round_keys.specs.Pages.{InSlots, IsPage};
 ghost use Rattle.round_worker.specs.Parting.{AreKept};
+ghost use Rattle.round_keys.specs.Stored.{IsCovered, counted_in, counts_on, counts_slot};
 ghost use Rattle.round_worker.specs.declared.keys.Kept as keys;
-ghost use Rattle.round_keys.specs.Stored.{IsAfter, IsCovered, counted_in};
 
 use crate::KeyStore;
 use reclaim::Locked;
 use round_worker::Kept;
-use std::ops::Bound;
 use tag_model::Held;
 
 impl KeyStore {
@@ -23,72 +21,53 @@ impl KeyStore {
         ensures same { (self.new ≡ self.old) × (locked.new ≡ locked.old) }
         ensures covered { All (λ (entry : ℕ × keys.Kept). IsCovered locked.old entry.1) self.old }
     {
-        let _count = self.kept.len();
-        let mut last = None;
-        while let Some(key) = self.key_after(last) {
-            self.meet_at(key, locked);
-            last = Some(key);
-        }
-    }
-
-    /// The first key behind one, or the first of all.
-    pub fn key_after(&self, last: Option<u32>) -> Option<u32>
-        ensures after { IfSome result (λ key. IsAfter last key) }
-        ensures least { IfSome result (λ key. (other : ℕ) → IsAfter last other → IsSome (find nat_cmp other self.now) → key ≤ other) }
-        ensures none { IfNone result ((other : ℕ) → IsAfter last other → find nat_cmp other self.now ≡ None) }
-    {
-        match last {
-            None => self.first_key(),
-            Some(key) => self.next_key(key),
-        }
-    }
-
-    fn first_key(&self) -> Option<u32>
-        ensures least { IfSome result (λ key. (other : ℕ) → IsSome (find nat_cmp other self.now) → key ≤ other) }
-        ensures none { IfNone result ((other : ℕ) → find nat_cmp other self.now ≡ None) }
-    {
-        match self.kept.first_key_value() {
-            Some((key, _kept)) => Some(*key),
-            None => None,
-        }
-    }
-
-    fn next_key(&self, last: u32) -> Option<u32>
-        ensures after { IfSome result (λ key. last < key) }
-        ensures least { IfSome result (λ key. (other : ℕ) → last < other → IsSome (find nat_cmp other self.now) → key ≤ other) }
-        ensures none { IfNone result ((other : ℕ) → last < other → find nat_cmp other self.now ≡ None) }
-    {
-        let mut behind = self.kept.range((Bound::Excluded(last), Bound::Unbounded));
-        match behind.next() {
-            Some((key, _kept)) => Some(*key),
-            None => None,
-        }
-    }
-
-    // The key's cell meets the list.
-    fn meet_at(&mut self, key: u32, locked: &mut Locked)
-        requires kept { AreKept locked.old.board self.old }
-        ensures same { (self.new ≡ self.old) × (locked.new ≡ locked.old) }
-        ensures covered { IfSome (find nat_cmp key self.old) (IsCovered locked.old) }
-    {
-        let Some(kept) = self.kept.get_mut(&key) else {
-            return;
-        };
-        meet_kept(kept, locked);
+        meet_pages(self.pages.as_mut_slice(), locked);
     }
 
     /// How many of the references are counted.
     pub fn counted(&self) -> u64
         ensures { result ≡ counted_in (live_of self.now) }
     {
-        let _keys = self.kept.len();
-        let mut count = 0;
-        for kept in self.kept.values() {
-            if is_counted(kept) {
-                count += 1;
-            }
-        }
-        count
+        counted_in_pages(self.pages.as_slice())
+    }
+}
+
+fn meet_pages(pages: &mut [Vec<Option<Kept>>], locked: &mut Locked)
+    requires kept { All (λ page. InSlots (IsKept locked.old.board) page.items) pages.old }
+    ensures same { (map (λ page. page.items) pages.new ≡ map (λ page. page.items) pages.old) × (locked.new ≡ locked.old) }
+    ensures covered { All (λ page. InSlots (IsCovered locked.old) page.items) pages.old }
+{
+    for number in 0..pages.len() {
+        meet_page(&mut pages[number], locked);
+    }
+}
+
+fn meet_page(page: &mut Vec<Option<Kept>>, locked: &mut Locked)
+    requires kept { InSlots (IsKept locked.old.board) page.old.items }
+    ensures same { (page.new.items ≡ page.old.items) × (locked.new ≡ locked.old) }
+    ensures covered { InSlots (IsCovered locked.old) page.old.items }
+{
+    meet_slots(page.as_mut_slice(), locked);
+}
+
+fn meet_slots(slots: &mut [Option<Kept>], locked: &mut Locked)
+    requires kept { InSlots (IsKept locked.old.board) slots.old }
+    ensures same { (slots.new ≡ slots.old) × (locked.new ≡ locked.old) }
+    ensures covered { InSlots (IsCovered locked.old) slots.old }
+{
+    if let Some((slot, rest)) = slots.split_first_mut() {
+        meet_slot(slot, locked);
+        meet_slots(rest, locked);
+    }
+}
+
+fn meet_slot(slot: &mut Option<Kept>, locked: &mut Locked)
+    requires { IfSome slot.old (IsKept locked.old.board) }
+    ensures same { (slot.new ≡ slot.old) × (locked.new ≡ locked.old) }
+    ensures covered { IfSome slot.old (IsCovered locked.old) }
+{
+    if let Some(kept) = slot {
+        meet_kept(kept, locked);
     }
 }
 
@@ -105,6 +84,38 @@ fn meet_kept(kept: &mut Kept, locked: &mut Locked)
             }
         }
         Kept::Nothing { .. } => {}
+    }
+}
+
+fn counted_in_pages(pages: &[Vec<Option<Kept>>]) -> u64
+    requires few { length pages.now ≤ 16777216 }
+    requires all { All (λ page. IsPage page.items) pages.now }
+    ensures counted { result ≡ counts_on (map (λ page. page.items) pages.now) }
+    ensures few { result ≤ 256 * length pages.now }
+{
+    match pages.split_first() {
+        Some((page, rest)) => counted_in_slots(page.as_slice()) + counted_in_pages(rest),
+        None => 0,
+    }
+}
+
+fn counted_in_slots(slots: &[Option<Kept>]) -> u64
+    requires few { length slots.now ≤ 256 }
+    ensures counted { result ≡ count_by counts_slot slots.now }
+    ensures few { result ≤ length slots.now }
+{
+    match slots.split_first() {
+        Some((slot, rest)) => u64::from(is_counted_slot(slot)) + counted_in_slots(rest),
+        None => 0,
+    }
+}
+
+fn is_counted_slot(slot: &Option<Kept>) -> bool
+    ensures { result ≡ counts_slot slot.now }
+{
+    match slot {
+        Some(kept) => is_counted(kept),
+        None => false,
     }
 }
 

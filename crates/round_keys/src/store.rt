@@ -1,27 +1,39 @@
 //! The store of keys.
 
-ghost use Rattle.std.specs.Prelude.{◌≡◌, ◌==◌, [], IsTrue, OnErr, OnOk, not, option_map};
+ghost use Rattle.std.specs.Prelude.{◌≡◌, ◌==◌, [], IsTrue, OnErr, OnOk, not};
 ghost use Rattle.std.specs.FinMap.Entries.{find, is_sorted, put, where_key};
 ghost use Rattle.std.specs.Ordering.{nat_cmp};
 
+use crate::pages::{grow_pages, put_at, take_at};
 use round_worker::Kept;
 use std::alloc::{AllocError, Global};
-use std::collections::BTreeMap;
 use std::marker::Model;
+
+/// How many keys a page has places for.
+const PAGE: u32 = 256;
 
 /// The keys that no worker has, each with what it is bound to.
 #[derive(Drop)]
 pub struct KeyStore {
-    pub(crate) kept: BTreeMap<u32, Kept>,
+    alloc: Global,
+    // What keys are bound to, by page and place. Behind the last place that was needed a page has none.
+    pub(crate) pages: Vec<Vec<Option<Kept>>>,
 }
 
 impl Model for KeyStore {
+    ghost use Rattle.std.specs.Prelude.{◌≤◌, All, length, map};
     ghost use Rattle.round_worker.specs.Kept.{KeyList};
+    ghost use Rattle.round_keys.specs.Pages.{IsPage, pages_from};
 
     ghost Value = { KeyList };
 
     // By rising key.
-    ghost view = { λ store. store.kept.entries };
+    ghost view = { λ store. pages_from 0 (map (λ page. page.items) store.pages.items) };
+
+    ghost invariant = { λ store. record {
+      all : All (λ page. IsPage page.items) store.pages.items;
+      few : length store.pages.items ≤ 16777216;
+    } };
 }
 
 impl KeyStore {
@@ -30,15 +42,16 @@ impl KeyStore {
         ensures { result ≡ [] }
     {
         KeyStore {
-            kept: BTreeMap::new(alloc),
+            alloc,
+            pages: Vec::new(alloc),
         }
     }
 
-    /// What a key is bound to, if it is here.
-    pub fn get(&self, key: u32) -> Option<&Kept>
-        ensures { option_map (λ kept. kept.now) result ≡ find nat_cmp key self.now }
+    /// Tells what holds of all keys.
+    pub fn tell(&self)
+        ensures { IsTrue (is_sorted nat_cmp self.now) }
     {
-        self.kept.get(&key)
+        let _pages = &self.pages;
     }
 
     // Takes a key out, with what it is bound to.
@@ -47,8 +60,12 @@ impl KeyStore {
         ensures keys { self.new ≡ where_key nat_cmp (λ other. not (other == key)) self.old }
         ensures rises { IsTrue (is_sorted nat_cmp self.old) }
     {
-        let _count = self.kept.len();
-        self.kept.remove(&key)
+        let number = (key / PAGE) as usize;
+        if number < self.pages.len() {
+            take_at(&mut self.pages[number], (key % PAGE) as usize)
+        } else {
+            None
+        }
     }
 
     // Puts a key in.
@@ -56,7 +73,8 @@ impl KeyStore {
         ensures put { OnOk result (self.new ≡ put nat_cmp key kept self.old) }
         ensures err { OnErr result (self.new ≡ self.old) }
     {
-        self.kept.insert(key, kept)?;
-        Ok(())
+        let number = (key / PAGE) as usize;
+        grow_pages(self.alloc, &mut self.pages, number)?;
+        put_at(&mut self.pages[number], (key % PAGE) as usize, kept)
     }
 }

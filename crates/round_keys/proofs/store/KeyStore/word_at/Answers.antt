@@ -1,56 +1,26 @@
-use Rattle.std.proofs.Common.{◌≡◌, All, List, Option, T, nat_cmp, ap, sym, subst, ◌∙◌, rules}
-use Rattle.std.specs.FinMap.Entries.{is_sorted}
-use Rattle.std.specs.Map.{values_of}
-use Rattle.std.specs.Option.{option_and_then, option_or}
-use Rattle.std.proofs.lemmas.List.Elements.{All-tail}
-use Rattle.tag_rule.specs.Shown.{CellShown}
-use Rattle.round_worker.specs.Cells.{IsOfChecked, first_some, kept_seat, kept_word, seat_word}
-use Rattle.round_worker.specs.Kept.{KeyList}
+use Rattle.std.proofs.Common.{ℕ, List, Option, All, Some, T, ◌≡◌, map, nat_cmp, subst, sym, ap, ◌∙◌}
+use Rattle.std.specs.FinMap.Entries.{find}
+use Rattle.trace_play.specs.Left.{word_at}
 use Rattle.round_worker.specs.declared.keys.Kept.{Kept}
-use Rattle.round_worker.proofs.KeyLemmas.{rises}
-use Rattle.round_keys.proofs.StoredLemmas.{all_found, none_first, of_values, some_first, words_found}
+use Rattle.round_worker.specs.Cells.{IsOfChecked, first_some, kept_seat}
+use Rattle.round_keys.specs.Stored.{bound_word}
+use Rattle.round_worker.specs.Kept.{KeyList}
+use Rattle.round_keys.specs.Pages.{InSlots, pages_from}
+use Rattle.round_worker.specs.Parting.{AreKept}
+use Rattle.round_keys.specs.Stored.{key_cells}
+use Rattle.round_keys.proofs.PageLemmas.{pages_rise}
+use Rattle.round_keys.proofs.StoredLemmas.{pages_hold, pages_tell, seen_word}
 use Rattle.round_keys.proofs.store.KeyStore.word_at.Goals as goal
 
-pub loop-kept-init : goal.loop-kept-init
-loop-kept-init c =
-    let same : c.into_iter-kept-iterator.result ≡ values_of c.args.self.now = search (rules) in
-    let up : T (is_sorted nat_cmp c.args.self.now) = subst (λ (es : KeyList). T (is_sorted nat_cmp es)) c.self.view_is (rises c.self.inside.kept.entries c.len-count.ensures.ordered) in
-    let own : Kept → Type 0 = λ (kept : Kept). IsOfChecked (kept_seat kept) in
-    record {
-      next = tt;
-      finite = tt;
-      left = ap (λ (ks : List Kept). first_some (kept_word c.args.cell) ks) same;
-      checked = subst (λ (ks : List Kept). All own ks) (sym same) (of_values own c.args.self.now (all_found own c.args.self.now up c.requires.checked));
-    }
-
-pub returns-then-is_some : goal.returns-then-is_some
-returns-then-is_some c board own =
-    let give = kept_word c.args.cell in
-    let up : T (is_sorted nat_cmp c.args.self.now) = subst (λ (es : KeyList). T (is_sorted nat_cmp es)) c.self.view_is (rises c.self.inside.kept.entries c.len-count.ensures.ordered) in
-    let word : c.word_of_seat-word.result ≡ give c.in-Some.kept.now = c.word_of_seat-word.ensures ∙ ap (λ (seat : Option CellShown). option_and_then (seat_word c.args.cell) seat) c.seat.ensures in
-    some_first c.word_of_seat-word.result (first_some give c.next.new.self) (sym c.is_some.ensures ∙ c.if-is_some.true)
-    ∙ ap (λ w. option_or w (first_some give c.next.new.self)) word
-    ∙ sym (ap (λ (ks : List Kept). first_some give ks) c.in-Some.ensures.steps)
-    ∙ c.loop-kept.invariant.left ∙ words_found board c.args.cell c.args.self.now up own
-
-pub loop-kept-preserved : goal.loop-kept-preserved
-loop-kept-preserved c =
-    let give = kept_word c.args.cell in
-    let word : c.word_of_seat-word.result ≡ give c.in-Some.kept.now = c.word_of_seat-word.ensures ∙ ap (λ (seat : Option CellShown). option_and_then (seat_word c.args.cell) seat) c.seat.ensures in
-    let own : Kept → Type 0 = λ (kept : Kept). IsOfChecked (kept_seat kept) in
-    record {
-      next = tt;
-      finite = tt;
-      left =
-          none_first c.word_of_seat-word.result (first_some give c.next.new.self) (sym c.is_some.ensures ∙ c.if-is_some.false)
-          ∙ ap (λ w. option_or w (first_some give c.next.new.self)) word
-          ∙ sym (ap (λ (ks : List Kept). first_some give ks) c.in-Some.ensures.steps)
-          ∙ c.loop-kept.invariant.left;
-      checked = All-tail own c.in-Some.kept.now c.next.new.self (subst (λ (ks : List Kept). All own ks) c.in-Some.ensures.steps c.loop-kept.invariant.checked);
-    }
+pub word_in_pages-requires : goal.word_in_pages-requires
+word_in_pages-requires c =
+    let checked = pages_hold (λ page. page.items) c.self.inside.pages.items (λ (kept : Kept). IsOfChecked (kept_seat kept)) c.args.self.now c.self.view_is c.self.invariant.all c.requires.checked in
+    record { checked = subst (λ pages. All (λ page. InSlots (λ (kept : Kept). IsOfChecked (kept_seat kept)) page.items) pages) (sym c.as_slice.ensures.value) checked }
 
 pub returns : goal.returns
 returns c board own =
-    let give = kept_word c.args.cell in
-    let up : T (is_sorted nat_cmp c.args.self.now) = subst (λ (es : KeyList). T (is_sorted nat_cmp es)) c.self.view_is (rises c.self.inside.kept.entries c.len-count.ensures.ordered) in
-    sym (ap (λ (ks : List Kept). first_some give ks) c.in-None.ensures.steps.0) ∙ c.loop-kept.invariant.left ∙ words_found board c.args.cell c.args.self.now up own
+    let pages = map (λ page. page.items) c.self.inside.pages.items in
+    c.word_in_pages.ensures ∙ ap (λ pages. first_some (λ page. first_some (bound_word c.args.cell) page.items) pages) c.as_slice.ensures.value
+    ∙ seen_word (λ page. page.items) c.args.cell c.self.inside.pages.items
+    ∙ pages_tell board c.args.cell pages (pages_rise (λ page. page.items) c.self.inside.pages.items c.self.invariant.all) (subst (AreKept board) (sym c.self.view_is) own)
+    ∙ ap (λ (es : KeyList). word_at board.shape c.args.cell (key_cells es)) c.self.view_is
