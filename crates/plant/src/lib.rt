@@ -12,3 +12,6 @@ pub use laws::workers_begin_as_the_meaning_does;
 pub use left::Left;
 pub use starting::Started;
 pub use table::{Plant, print_quiet};
+
+#[cfg(test)]
+mod tests;
