@@ -16,8 +16,7 @@ use Rattle.slab_cache.specs.Storage.{Pages, Object, Uncounted}
 use Rattle.trace_play.specs.Live.{Content, Nothing, Stored, Live, held_of}
 use Rattle.trace_play.specs.Left.{word_at}
 use Rattle.trace_play.specs.Machine.{content_cell, is_counted}
-use Rattle.trace_play.specs.Alone.{put_all}
-use Rattle.trace_play.proofs.Entries.{first_true, second_true, find_below}
+use Rattle.trace_play.proofs.Entries.{first_true, second_true, find_below, put_all}
 use Rattle.round_worker.specs.declared.keys.Kept.{Kept}
 use Rattle.round_worker.specs.Cells.{first_some, kept_word}
 use Rattle.round_worker.specs.Kept.{IsKept, KeyList, content_of, live_of}
@@ -64,8 +63,9 @@ kept_later board e es up own key kept found = own key kept (later_found e es key
 
 -- ---- keys put in, one after the other
 
-pub one_put_in : (e : ℕ × Kept) (es into next : KeyList) → next ≡ put nat_cmp e.0 e.1 into → put_all (live_of next) (live_of es) ≡ put_all (live_of into) (live_of (e ∷ es))
-one_put_in e es into next is = ap (λ (l : Live). put_all l (live_of es)) (ap live_of is ∙ live_put e.0 e.1 into)
+pub live_put_all : (es into : KeyList) → live_of (put_all into es) ≡ put_all (live_of into) (live_of es)
+live_put_all [] into = refl
+live_put_all (e ∷ es) into = live_put_all es (put nat_cmp e.0 e.1 into) ∙ ap (λ (l : Live). put_all l (live_of es)) (live_put e.0 e.1 into)
 
 -- ---- workers that were asked in turn
 

@@ -39,8 +39,8 @@ impl KeyStore {
         ensures store { OnOk result (live_of self.new ≡ put_all (live_of self.old) (live_of keys)) }
         ensures still { (board : Board) → AreKept board self.old → AreKept board keys → OnOk result (AreKept board self.new) }
     {
-        let mut keys = keys;
-        while let Some((key, kept)) = keys.pop() {
+        self.tell();
+        for (key, kept) in keys.into_entries() {
             self.put(key, kept)?;
         }
         Ok(())

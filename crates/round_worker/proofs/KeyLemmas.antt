@@ -1,79 +1,100 @@
--- A map of keys is its entries by rising key.
-use Rattle.std.proofs.Common.{◌≡◌, ℕ, ◌≢◌, Bool, true, false, cond, not, T, eqb, List, [], ◌∷◌, Option, Some, None, nat_cmp, Less, Equal, Greater, refl, sym, ap, ◌∙◌, subst, ⊎_elim, eqb-true, ne_eqb, eq-eqb}
+-- A map of keys is its entries by rising key, in whatever order it has them.
+use Rattle.std.proofs.Common.{◌≡◌, ℕ, ◌≢◌, Bool, true, false, cond, not, T, eqb, List, [], ◌∷◌, All, Option, Some, None, nat_cmp, Less, Equal, Greater, refl, sym, ap, ◌∙◌, ⊎_elim, eqb-true, ne_eqb, eq-eqb}
 use Rattle.std.specs.Prelude.{option_map, ◌&&◌}
-use Rattle.std.specs.BTreeMap.{insert_entry, is_at}
-use Rattle.std.specs.Cmp.{unsigned_tied}
-use Rattle.std.specs.Map.{lookup, keys_of, remove_entry}
-use Rattle.std.specs.List.{AllByRecursion}
-use Rattle.std.specs.List.Sorted.{IsStrictlySortedBy}
-use Rattle.std.specs.Ordering.{match_ordering, is_eq, is_lt}
+use Rattle.std.specs.List.{AllByRecursion, IsDistinct}
+use Rattle.std.specs.Map.{keys_of, lookup}
+use Rattle.std.specs.Option.{option_or}
+use Rattle.std.specs.Ordering.{is_eq, is_lt}
 use Rattle.std.specs.FinMap.Entries.{find, put, where_key, is_sorted, below_all, by_order}
 use Rattle.std.proofs.lemmas.Bool.{cases_Bool, cond-true, cond-false, eqb-false}
+use Rattle.std.proofs.lemmas.List.Elements.{All-cons, All-nil}
 use Rattle.trace_play.specs.Live.{Live}
-use Rattle.trace_play.proofs.Entries.{find_put, find_kept, sorted_put, sorted_kept, same, kept_put}
+use Rattle.trace_play.proofs.Entries.{find_put, find_kept, find_put_all, put_all, sorted_put, sorted_put_all, sorted_kept, same, kept_put}
 use Rattle.round_worker.specs.declared.keys.Kept.{Kept}
-use Rattle.round_worker.specs.Kept.{KeyList, content_of, live_of}
+use Rattle.round_worker.specs.Kept.{KeyList, by_key, content_of, live_of}
 
-both : (a b : Bool) → T a → T b → T (a && b)
-both true b p q = q
-both false b p q = absurd p
+other_way : (a b : ℕ) → eqb a b ≡ eqb b a
+other_way a b =
+    ⊎_elim
+    (λ yes. yes ∙ sym (eq-eqb b a (sym (eqb-true a b yes))))
+    (λ no. no ∙ sym (ne_eqb b a (λ e. eqb-false a b no (sym e))))
+    (cases_Bool (eqb a b))
 
-apart : (key x : ℕ) → nat_cmp key x ≡ Less → not (eqb x key) ≡ true
-apart key x l =
-    let differs : key ≢ x = eqb-false key x (sym (unsigned_tied key x) ∙ ap is_eq l) in
-    ap not (ne_eqb x key (λ e. differs (sym e)))
+turned : {A : Type 0} (b : Bool) (x y : A) → cond (not b) x y ≡ cond b y x
+turned true x y = refl
+turned false x y = refl
+
+-- what is put at a key before or behind the others, which don't have it
+before_or_behind : {A : Type 0} (b : Bool) (v : A) (others into : Option A) → (b ≡ true → others ≡ None) → option_or others (cond b (Some v) into) ≡ option_or (cond b (Some v) others) into
+before_or_behind true v others into none = ap (λ o. option_or o (Some v)) (none refl)
+before_or_behind false v others into none = refl
+
+never : {X : Type 0} {A : Type 0} (x : X) → None ≡ Some x → A
+never x e = let no : ⊥ = cc in absurd no
 
 module _ {X : Type 0} where
-  pub find_looked : (es : List (ℕ × X)) (key : ℕ) → lookup (is_at (nat_cmp key)) es ≡ find nat_cmp key es
-  find_looked [] key = refl
-  find_looked (e ∷ es) key = ap (λ (r : Option X). cond (is_eq (nat_cmp key e.0)) (Some e.1) r) (find_looked es key)
+  pub find_by_key : (es : List (ℕ × X)) (q : ℕ) → find nat_cmp q (by_key es) ≡ lookup (eqb q) es
+  find_by_key [] q = refl
+  find_by_key (e ∷ es) q = find_put q e.0 e.1 (by_key es) ∙ ap (cond (eqb q e.0) (Some e.1)) (find_by_key es q)
 
-  pub put_inserted : (es : List (ℕ × X)) (key : ℕ) (v : X) → insert_entry nat_cmp es key v ≡ put nat_cmp key v es
-  put_inserted [] key v = refl
-  put_inserted (e ∷ es) key v =
-      elim (nat_cmp key e.0) as (λ o. match_ordering o ((key, v) ∷ e ∷ es) ((e.0, v) ∷ es) (e ∷ insert_entry nat_cmp es key v) ≡ by_order o ((key, v) ∷ e ∷ es) ((e.0, v) ∷ es) (e ∷ put nat_cmp key v es)) [
-        | Less ↦ refl
-        | Equal ↦ refl
-        | Greater ↦ ap (λ (t : List (ℕ × X)). e ∷ t) (put_inserted es key v)
-      ]
+  pub rises : (es : List (ℕ × X)) → T (is_sorted nat_cmp (by_key es))
+  rises [] = tt
+  rises (e ∷ es) = sorted_put e.0 e.1 (by_key es) (rises es)
 
-  below : (x : ℕ) (es : List (ℕ × X)) → AllByRecursion (λ y. nat_cmp x y ≡ Less) (keys_of es) → T (below_all nat_cmp x es)
-  below x [] a = tt
-  below x (e ∷ es) a = both _ _ (subst (λ o. T (is_lt o)) (sym a.0) tt) (below x es a.1)
-
-  pub rises : (es : List (ℕ × X)) → IsStrictlySortedBy nat_cmp (keys_of es) → T (is_sorted nat_cmp es)
-  unfolding IsStrictlySortedBy
-  rises [] s = tt
-  rises (e ∷ es) s = both _ _ (below e.0 es s.0) (rises es s.1)
+  pub put_among : (old now : List (ℕ × X)) (key : ℕ) (v : X) → ((q : ℕ) → lookup (eqb q) now ≡ cond (eqb key q) (Some v) (lookup (eqb q) old)) → by_key now ≡ put nat_cmp key v (by_key old)
+  put_among old now key v h =
+      same (by_key now) (put nat_cmp key v (by_key old)) (rises now) (sorted_put key v (by_key old) (rises old))
+      (λ q. find_by_key now q ∙ h q ∙ ap (λ b. cond b (Some v) (lookup (eqb q) old)) (other_way key q)
+      ∙ ap (cond (eqb q key) (Some v)) (sym (find_by_key old q)) ∙ sym (find_put q key v (by_key old)))
 
   -- the entries of the other keys
   abbrev pub others : ℕ → List (ℕ × X) → List (ℕ × X)
   others key es = where_key nat_cmp (λ other. not (eqb other key)) es
 
-  all_other : (key : ℕ) (es : List (ℕ × X)) → AllByRecursion (λ y. nat_cmp key y ≡ Less) (keys_of es) → others key es ≡ es
-  all_other key [] a = refl
-  all_other key (e ∷ es) a = cond-true (not (eqb e.0 key)) (e ∷ others key es) (others key es) (apart key e.0 a.0) ∙ ap (λ (t : List (ℕ × X)). e ∷ t) (all_other key es a.1)
+  pub taken_out : (old now : List (ℕ × X)) (key : ℕ) → ((q : ℕ) → lookup (eqb q) now ≡ cond (eqb key q) None (lookup (eqb q) old)) → by_key now ≡ others key (by_key old)
+  taken_out old now key h =
+      same (by_key now) (others key (by_key old)) (rises now) (sorted_kept (λ other. not (eqb other key)) (by_key old) (rises old))
+      (λ q. find_by_key now q ∙ h q ∙ ap (λ b. cond b None (lookup (eqb q) old)) (other_way key q)
+      ∙ sym (turned (eqb q key) (lookup (eqb q) old) None) ∙ ap (λ o. cond (not (eqb q key)) o None) (sym (find_by_key old q))
+      ∙ sym (find_kept (λ other. not (eqb other key)) q (by_key old)))
 
-  pub others_left : (es : List (ℕ × X)) (key : ℕ) → IsStrictlySortedBy nat_cmp (keys_of es) → remove_entry (is_at (nat_cmp key)) es ≡ others key es
-  unfolding IsStrictlySortedBy
-  others_left [] key s = refl
-  others_left (e ∷ es) key s =
-      let at = is_eq (nat_cmp key e.0) in
-      let left = not (eqb e.0 key) in
-      ⊎_elim
-      (λ here.
-      let one : key ≡ e.0 = eqb-true key e.0 (sym (unsigned_tied key e.0) ∙ here) in
-      let gone : left ≡ false = ap not (eq-eqb e.0 key (sym one)) in
-      cond-true at es (e ∷ remove_entry (is_at (nat_cmp key)) es) here
-      ∙ sym (all_other e.0 es s.0) ∙ ap (λ (k : ℕ). others k es) (sym one)
-      ∙ sym (cond-false left (e ∷ others key es) (others key es) gone))
-      (λ there.
-      let differs : key ≢ e.0 = eqb-false key e.0 (sym (unsigned_tied key e.0) ∙ there) in
-      let stays : left ≡ true = ap not (ne_eqb e.0 key (λ q. differs (sym q))) in
-      cond-false at es (e ∷ remove_entry (is_at (nat_cmp key)) es) there
-      ∙ ap (λ (t : List (ℕ × X)). e ∷ t) (others_left es key s.1)
-      ∙ sym (cond-true left (e ∷ others key es) (others key es) stays))
-      (cases_Bool at)
+  none_looked : (key : ℕ) (es : List (ℕ × X)) → AllByRecursion (λ other. eqb key other ≡ false) (keys_of es) → lookup (eqb key) es ≡ None
+  none_looked key [] others = refl
+  none_looked key (e ∷ es) others = cond-false (eqb key e.0) (Some e.1) (lookup (eqb key) es) others.0 ∙ none_looked key es others.1
+
+  -- a key that others follow isn't among them
+  none_behind : (e : ℕ × X) (es : List (ℕ × X)) (q : ℕ) → IsDistinct eqb (keys_of (e ∷ es)) → eqb q e.0 ≡ true → find nat_cmp q (by_key es) ≡ None
+  unfolding IsDistinct
+  none_behind e es q once here = find_by_key es q ∙ ap (λ k. lookup (eqb k) es) (eqb-true q e.0 here) ∙ none_looked e.0 es once.0
+
+  -- entries of which each has a key of its own are put in in any order
+  pub any_order : (into es : List (ℕ × X)) → T (is_sorted nat_cmp into) → IsDistinct eqb (keys_of es) → put_all into es ≡ put_all into (by_key es)
+  unfolding IsDistinct
+  any_order into [] up once = refl
+  any_order into (e ∷ es) up once =
+      let more = put nat_cmp e.0 e.1 into in
+      let later = by_key es in
+      any_order more es (sorted_put e.0 e.1 into up) once.1
+      ∙ same (put_all more later) (put_all into (put nat_cmp e.0 e.1 later)) (sorted_put_all more later (sorted_put e.0 e.1 into up)) (sorted_put_all into (put nat_cmp e.0 e.1 later) up)
+      (λ q. find_put_all q more later (rises es) ∙ ap (option_or (find nat_cmp q later)) (find_put q e.0 e.1 into)
+      ∙ before_or_behind (eqb q e.0) e.1 (find nat_cmp q later) (find nat_cmp q into) (none_behind e es q once)
+      ∙ sym (find_put_all q into (put nat_cmp e.0 e.1 later) (sorted_put e.0 e.1 later (rises es)) ∙ ap (λ o. option_or o (find nat_cmp q into)) (find_put q e.0 e.1 later)))
+
+  -- what holds of all that a key finds holds of each entry
+  pub all_entries : (P : X → Type 0) (es : List (ℕ × X)) → IsDistinct eqb (keys_of es) → ((q : ℕ) (x : X) → find nat_cmp q (by_key es) ≡ Some x → P x) → All (λ (e : ℕ × X). P e.1) es
+  unfolding IsDistinct
+  all_entries P [] once own = All-nil (λ (e : ℕ × X). P e.1)
+  all_entries P (e ∷ es) once own =
+      All-cons (λ (e : ℕ × X). P e.1) e es
+      (own e.0 e.1 (find_put e.0 e.0 e.1 (by_key es) ∙ cond-true (eqb e.0 e.0) (Some e.1) (find nat_cmp e.0 (by_key es)) (eq-eqb e.0 e.0 refl)))
+      (all_entries P es once.1 (λ q x found. own q x (find_put q e.0 e.1 (by_key es) ∙ still q x found)))
+    where
+      still : (q : ℕ) (x : X) → find nat_cmp q (by_key es) ≡ Some x → cond (eqb q e.0) (Some e.1) (find nat_cmp q (by_key es)) ≡ Some x
+      still q x found =
+          ⊎_elim
+          (λ yes. never x (sym (none_behind e es q once yes) ∙ found))
+          (λ no. cond-false (eqb q e.0) (Some e.1) (find nat_cmp q (by_key es)) no ∙ found)
+          (cases_Bool (eqb q e.0))
 
   -- what is put at a key that was taken out is put in its place
   again : (b : Bool) (v : X) (o : Option X) → cond b (Some v) (cond (not b) o None) ≡ cond b (Some v) o

@@ -1,5 +1,9 @@
 -- What the keys are bound to, and what it is in the meaning.
-use Rattle.std.specs.Prelude.{ℕ, ◌+◌, ◌-◌, ◌≡◌, ◌≢◌, ◌≤◌, false, List, map, ◌<◌, if◌then◌else◌}
+use Rattle.std.specs.Prelude.{ℕ, ◌+◌, ◌-◌, ◌≡◌, ◌==◌, ◌≢◌, ◌≤◌, false, List, [], ◌∷◌, map, ◌<◌, if◌then◌else◌}
+use Rattle.std.specs.FinMap.Entries.{put}
+use Rattle.std.specs.List.{IsDistinct}
+use Rattle.std.specs.Map.{keys_of}
+use Rattle.std.specs.Ordering.{nat_cmp}
 use Rattle.tag_model.specs.declared.state.Held.TheVariants as held
 use Rattle.tag_rule.specs.Shown.{Board}
 use Rattle.page_ext.specs.Blocks.{page_bytes}
@@ -17,6 +21,16 @@ use Rattle.slab_cache.specs.Shown.{IsLive, IsOfTable, Suits, cell_of, is_block, 
 -- by rising key
 abbrev pub KeyList : Type 0
 KeyList = List (ℕ × Kept)
+
+-- entries in whatever order, by rising key
+abbrev pub by_key : {X : Type 0} → List (ℕ × X) → List (ℕ × X)
+by_key [] = []
+by_key (entry ∷ entries) = put nat_cmp entry.0 entry.1 (by_key entries)
+
+-- the entries of the keys, each once, in whatever order
+pub record AreEntriesOf (keys : KeyList) (entries : KeyList) : Type 0 where
+  pub all : by_key entries ≡ keys
+  pub once : IsDistinct (λ (one other : ℕ). one == other) (keys_of entries)
 
 abbrev pub content_of : Kept → Content
 content_of (Nothing order) = live.Nothing order

@@ -1,17 +1,18 @@
 //! What each key is bound to.
 
-ghost use Rattle.std.specs.Prelude.{◌≡◌, ◌==◌, ◌+◌, ◌≤◌, ◌∷◌, [], All, IfNone, IfSome, IsTrue, OnErr, OnOk, length, not, replicate};
+ghost use Rattle.std.specs.Prelude.{◌≡◌, ◌==◌, ◌+◌, ◌≤◌, [], All, IsTrue, OnErr, OnOk, length, not, replicate};
 ghost use Rattle.std.specs.FinMap.Entries.{find, is_sorted, put, where_key};
 ghost use Rattle.std.specs.Ordering.{nat_cmp};
 ghost use Rattle.tag_rule.specs.Shown.{Board};
 ghost use Rattle.trace_play.specs.Live.{part_key};
-ghost use Rattle.round_worker.specs.Kept.{IsKept};
+ghost use Rattle.round_worker.specs.Kept.{AreEntriesOf, IsKept};
 ghost use Rattle.round_worker.specs.Parting.{AreKept, blocks, with_parts};
 
 use page_ext::Block;
 use slab_cache::Obj;
 use std::alloc::{AllocError, Global};
-use std::collections::BTreeMap;
+use std::collections::HashMap;
+use std::collections::hash_map::IntoIter;
 use std::marker::Model;
 
 /// What a key is bound to.
@@ -28,15 +29,15 @@ pub enum Kept {
 /// The keys that are bound, each with what it is bound to.
 #[derive(Drop)]
 pub struct Keys {
-    kept: BTreeMap<u32, Kept>,
+    kept: HashMap<u32, Kept>,
 }
 
 impl Model for Keys {
-    ghost use Rattle.round_worker.specs.Kept.{KeyList};
+    ghost use Rattle.round_worker.specs.Kept.{KeyList, by_key};
 
     ghost Value = { KeyList };
 
-    ghost view = { λ keys. keys.kept.entries };
+    ghost view = { λ keys. by_key keys.kept.entries };
 }
 
 impl Keys {
@@ -45,7 +46,7 @@ impl Keys {
         ensures { result ≡ [] }
     {
         Keys {
-            kept: BTreeMap::new(alloc),
+            kept: HashMap::new(alloc),
         }
     }
 
@@ -55,7 +56,6 @@ impl Keys {
         ensures keys { self.new ≡ where_key nat_cmp (λ other. not (other == key)) self.old }
         ensures rises { IsTrue (is_sorted nat_cmp self.old) }
     {
-        let _count = self.kept.len();
         self.kept.remove(&key)
     }
 
@@ -68,14 +68,11 @@ impl Keys {
         Ok(())
     }
 
-    /// Unbinds the first key, and tells it with what it was bound to.
-    pub fn pop(&mut self) -> Option<(u32, Kept)>
-        ensures first { IfSome result (λ entry. self.old ≡ entry ∷ self.new) }
-        ensures none { IfNone result ((self.old ≡ []) × (self.new ≡ [])) }
-        ensures rises { IsTrue (is_sorted nat_cmp self.old) }
+    /// Unbinds all keys, and tells each with what it was bound to, in no order.
+    pub fn into_entries(self) -> IntoIter<u32, Kept>
+        ensures { AreEntriesOf self result }
     {
-        let _count = self.kept.len();
-        self.kept.pop_first()
+        self.kept.into_iter()
     }
 
     /// Binds the key and new ones to the parts of a block, by rising frame.
