@@ -14,39 +14,39 @@ use Rattle.tag_model.specs.RefMoves.{part_of, trimmed, open_moves, close_moves, 
 use Rattle.tag_model.specs.ListMachine.{Live, in_order, held_at, without, with_held, with_each, RefOp, Open, Mark, Close, Split, Swap, Trim, done, op_moves, MayDo, AreNew, is_even, LeavesSome, parts_of}
 use Rattle.tag_model.proofs.LiveLists.{counts_with, held_in_order, held_elsewhere, held_here}
 
--- ---- one reference
+-- ---- one reference: what its moves add and take away
 
-open_up : (cpu : ℕ) (kind : Kind) (t : ℕ) (h : Held) → all_up kind t (open_moves cpu h) ≡ held_counts kind t h
+pub open_up : (cpu : ℕ) (kind : Kind) (t : ℕ) (h : Held) → all_up kind t (open_moves cpu h) ≡ held_counts kind t h
 open_up cpu kind t held.None = refl
 open_up cpu kind t held.Empty = refl
 open_up cpu Bytes t (held.Counted tag size) = grind (arith, sum_by-cons)
 open_up cpu Calls t (held.Counted tag size) = grind (arith, sum_by-cons)
 
-open_down : (cpu : ℕ) (kind : Kind) (t : ℕ) (h : Held) → all_down kind t (open_moves cpu h) ≡ 0
+pub open_down : (cpu : ℕ) (kind : Kind) (t : ℕ) (h : Held) → all_down kind t (open_moves cpu h) ≡ 0
 open_down cpu kind t held.None = refl
 open_down cpu kind t held.Empty = refl
 open_down cpu Bytes t (held.Counted tag size) = grind (arith, sum_by-cons)
 open_down cpu Calls t (held.Counted tag size) = grind (arith, sum_by-cons)
 
-close_up : (cpu : ℕ) (kind : Kind) (t : ℕ) (h : Held) → all_up kind t (close_moves cpu h) ≡ 0
+pub close_up : (cpu : ℕ) (kind : Kind) (t : ℕ) (h : Held) → all_up kind t (close_moves cpu h) ≡ 0
 close_up cpu kind t held.None = refl
 close_up cpu kind t held.Empty = refl
 close_up cpu Bytes t (held.Counted tag size) = grind (arith, sum_by-cons)
 close_up cpu Calls t (held.Counted tag size) = grind (arith, sum_by-cons)
 
-close_down : (cpu : ℕ) (kind : Kind) (t : ℕ) (h : Held) → all_down kind t (close_moves cpu h) ≡ held_counts kind t h
+pub close_down : (cpu : ℕ) (kind : Kind) (t : ℕ) (h : Held) → all_down kind t (close_moves cpu h) ≡ held_counts kind t h
 close_down cpu kind t held.None = refl
 close_down cpu kind t held.Empty = refl
 close_down cpu Bytes t (held.Counted tag size) = grind (arith, sum_by-cons)
 close_down cpu Calls t (held.Counted tag size) = grind (arith, sum_by-cons)
 
-split_down : (cpu parts : ℕ) (kind : Kind) (t : ℕ) (h : Held) → all_down kind t (split_moves cpu parts h) ≡ 0
+pub split_down : (cpu parts : ℕ) (kind : Kind) (t : ℕ) (h : Held) → all_down kind t (split_moves cpu parts h) ≡ 0
 split_down cpu parts kind t held.None = refl
 split_down cpu parts kind t held.Empty = refl
 split_down cpu parts Bytes t (held.Counted tag size) = grind (arith, sum_by-cons)
 split_down cpu parts Calls t (held.Counted tag size) = grind (arith, sum_by-cons)
 
-equal_share : (parts size : ℕ) → IsTrue (size % parts == 0) → size ≡ parts * (size / parts)
+pub equal_share : (parts size : ℕ) → IsTrue (size % parts == 0) → size ≡ parts * (size / parts)
 equal_share parts size even =
     let rest : size % parts ≡ 0 = grind arith in
     let whole = div-add-mod' size parts in
@@ -61,7 +61,7 @@ shared_calls : (b : Bool) (parts : ℕ) → 0 < parts → cond {A = ℕ} b (part
 shared_calls true parts some = omega (arith, some)
 shared_calls false parts some = omega arith
 
-split_up : (cpu parts : ℕ) (kind : Kind) (t : ℕ) (h : Held) → 0 < parts → IsTrue (is_even parts h) → all_up kind t (split_moves cpu parts h) + held_counts kind t h ≡ parts * held_counts kind t (part_of parts h)
+pub split_up : (cpu parts : ℕ) (kind : Kind) (t : ℕ) (h : Held) → 0 < parts → IsTrue (is_even parts h) → all_up kind t (split_moves cpu parts h) + held_counts kind t h ≡ parts * held_counts kind t (part_of parts h)
 split_up cpu parts kind t held.None some even = omega arith
 split_up cpu parts kind t held.Empty some even = omega arith
 split_up cpu parts Bytes t (held.Counted tag size) some even =
@@ -71,13 +71,13 @@ split_up cpu parts Calls t (held.Counted tag size) some even =
     let moved : all_up Calls t (split_moves cpu parts (held.Counted tag size)) ≡ cond (tag.number == t) (parts - 1) 0 = grind (arith, sum_by-cons) in
     omega (arith, moved, shared_calls (tag.number == t) parts some)
 
-trim_up : (cpu bytes : ℕ) (kind : Kind) (t : ℕ) (h : Held) → all_up kind t (trim_moves cpu bytes h) ≡ 0
+pub trim_up : (cpu bytes : ℕ) (kind : Kind) (t : ℕ) (h : Held) → all_up kind t (trim_moves cpu bytes h) ≡ 0
 trim_up cpu bytes kind t held.None = refl
 trim_up cpu bytes kind t held.Empty = refl
 trim_up cpu bytes Bytes t (held.Counted tag size) = grind (arith, sum_by-cons)
 trim_up cpu bytes Calls t (held.Counted tag size) = grind (arith, sum_by-cons)
 
-trim_down : (cpu bytes : ℕ) (kind : Kind) (t : ℕ) (h : Held) → LeavesSome bytes h → held_counts kind t (trimmed bytes h) + all_down kind t (trim_moves cpu bytes h) ≡ held_counts kind t h
+pub trim_down : (cpu bytes : ℕ) (kind : Kind) (t : ℕ) (h : Held) → LeavesSome bytes h → held_counts kind t (trimmed bytes h) + all_down kind t (trim_moves cpu bytes h) ≡ held_counts kind t h
 trim_down cpu bytes kind t held.None less = refl
 trim_down cpu bytes kind t held.Empty less = refl
 trim_down cpu bytes Bytes t (held.Counted tag size) less = grind (arith, sum_by-cons)
