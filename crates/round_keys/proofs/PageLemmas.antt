@@ -1,5 +1,5 @@
 -- Keys in pages are found by page and place.
-use Rattle.std.proofs.Common.{◌≡◌, ℕ, zero, suc, ◌+◌, ◌-◌, ◌*◌, ◌/◌, ◌%◌, ◌<◌, ◌≤◌, ◌≢◌, Bool, true, false, cond, not, T, eqb, List, [], ◌∷◌, ◌++◌, length, get_or, set, All, Option, Some, None, Result, Ok, Err, OnOk, OnErr, nat_cmp, Ordering, Less, Equal, Greater, is_lt, is_eq, map, refl, sym, ap, ◌∙◌, subst, arith, eqb-true, ne_eqb, eq-eqb}
+use Rattle.std.proofs.Common.{◌≡◌, ℕ, zero, suc, ◌+◌, ◌-◌, ◌*◌, ◌/◌, ◌%◌, ◌<◌, ◌≤◌, ◌≢◌, Bool, true, false, cond, not, T, eqb, List, [], ◌∷◌, ◌++◌, length, get_or, set, All, Option, Some, None, Result, Ok, Err, OnErr, nat_cmp, Ordering, Less, Equal, Greater, is_lt, is_eq, map, refl, sym, ap, ◌∙◌, subst, arith, eqb-true, ne_eqb, eq-eqb}
 use Rattle.std.specs.Prelude.{◌&&◌}
 use Rattle.std.specs.Option.{option_or}
 use Rattle.std.specs.Cmp.{unsigned_tied}
@@ -10,15 +10,16 @@ use Rattle.std.proofs.lemmas.List.{get_or-set_same, get_or-set_other, get_or_pas
 use Rattle.std.proofs.lemmas.List.Elements.{All-head, All-tail, All-map, All-set, All-from_get_or, All-get_or, All-append, All-cons, All-nil}
 use Rattle.std.proofs.Math.Nat.{div-add-mod, mod-lt}
 use Rattle.trace_play.proofs.Entries.{find_below, find_put, find_kept, sorted_put, sorted_kept, same}
-use Rattle.round_keys.specs.Pages.{IsPage, slot_at, slot_in, slots_from, pages_from}
+use Rattle.round_check.proofs.Named.{by_bool}
+use Rattle.round_keys.specs.Pages.{IsPage, slot_at, slots_from, pages_from}
+
+-- what the pages hold at a key's place
+abbrev pub slot_in : {X : Type 0} → List (List (Option X)) → ℕ → Option X
+slot_in pages key = slot_at (get_or pages (key / 256) []) (key % 256)
 
 both : (a b : Bool) → T a → T b → T (a && b)
 both true b p q = q
 both false b p q = absurd p
-
-pub by_bool : (b : Bool) {P : Type 0} → (b ≡ true → P) → (b ≡ false → P) → P
-by_bool true f g = f refl
-by_bool false f g = g refl
 
 is_less : (a b : ℕ) → a < b → T (is_lt (nat_cmp a b))
 is_less a b low = by (nat_cmp a b) refl
@@ -66,17 +67,9 @@ all_seen f P xs e each =
     let short : length (map f xs) ≡ length xs = length-map xs f in
     unmapped f P xs (All-from_get_or P (map f xs) e (λ k low. each k (omega arith)))
 
-pub on_ok : {V E : Type 0} {P Q : Type 0} (r : Result V E) → (P → Q) → OnOk r P → OnOk r Q
-on_ok (Ok v) f p = f p
-on_ok (Err e) f p = p
-
 pub on_err : {V E : Type 0} {P Q : Type 0} (r : Result V E) → (P → Q) → OnErr r P → OnErr r Q
 on_err (Ok v) f p = p
 on_err (Err e) f p = f p
-
-pub holding : (b : Bool) → T b → b ≡ true
-holding true h = refl
-holding false h = absurd h
 
 module _ {X : Type 0} where
   -- ---- keys rise

@@ -20,13 +20,13 @@ use Rattle.trace_play.proofs.Entries.{first_true, second_true, find_below, put_a
 use Rattle.round_worker.specs.declared.keys.Kept.{Kept}
 use Rattle.round_worker.specs.Cells.{first_some, kept_word}
 use Rattle.round_worker.specs.Kept.{IsKept, KeyList, content_of, live_of}
-use Rattle.round_keys.specs.Pages.{InPages, InSlots, IsPage, pages_from, slots_from}
+use Rattle.round_keys.specs.Pages.{InSlots, IsPage, pages_from, slots_from}
 use Rattle.round_worker.specs.Parting.{AreKept}
 use Rattle.round_worker.specs.Shown.{WorkerShown}
 use Rattle.round_keys.specs.Stored.{bound_word, counted_in, counts_on, counts_slot, key_cells}
 use Rattle.round_worker.proofs.CellLemmas.{kept_found, more_found}
 use Rattle.round_worker.proofs.KeyLemmas.{live_put}
-use Rattle.round_keys.proofs.PageLemmas.{by_bool, pages_rise, unmapped}
+use Rattle.round_keys.proofs.PageLemmas.{pages_rise, unmapped}
 
 -- ---- the first entry and the others
 

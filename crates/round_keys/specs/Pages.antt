@@ -1,5 +1,5 @@
 -- Keys that lie in pages of 256 places each.
-use Rattle.std.specs.Prelude.{ℕ, ◌+◌, ◌*◌, ◌/◌, ◌%◌, ◌≤◌, List, [], ◌∷◌, ◌++◌, Option, Some, None, All, IfSome, length, slice_index_or}
+use Rattle.std.specs.Prelude.{ℕ, ◌+◌, ◌*◌, ◌≤◌, List, [], ◌∷◌, ◌++◌, Option, Some, None, All, IfSome, length, slice_index_or}
 
 -- a page's places are those of its first keys; the others are empty
 abbrev pub IsPage : {X : Type 0} → List (Option X) → Type 0
@@ -7,10 +7,6 @@ IsPage slots = length slots ≤ 256
 
 abbrev pub slot_at : {X : Type 0} → List (Option X) → ℕ → Option X
 slot_at slots place = slice_index_or slots place None
-
--- what the pages hold at a key's place
-abbrev pub slot_in : {X : Type 0} → List (List (Option X)) → ℕ → Option X
-slot_in pages key = slot_at (slice_index_or pages (key / 256) []) (key % 256)
 
 -- what the places from a key on hold
 abbrev pub slots_from : {X : Type 0} → ℕ → List (Option X) → List (ℕ × X)
@@ -23,9 +19,6 @@ abbrev pub pages_from : {X : Type 0} → ℕ → List (List (Option X)) → List
 pages_from number [] = []
 pages_from number (page ∷ pages) = slots_from (256 * number) page ++ pages_from (number + 1) pages
 
--- what holds of all that a page, or pages, hold
+-- what holds of all that a page holds
 abbrev pub InSlots : {X : Type 0} → (X → Type 0) → List (Option X) → Type 0
 InSlots P slots = All (λ slot. IfSome slot P) slots
-
-abbrev pub InPages : {X : Type 0} → (X → Type 0) → List (List (Option X)) → Type 0
-InPages P pages = All (λ page. InSlots P page) pages

@@ -58,7 +58,6 @@ impl KeyStore {
     pub(crate) fn take(&mut self, key: u32) -> Option<Kept>
         ensures value { result ≡ find nat_cmp key self.old }
         ensures keys { self.new ≡ where_key nat_cmp (λ other. not (other == key)) self.old }
-        ensures rises { IsTrue (is_sorted nat_cmp self.old) }
     {
         let number = (key / PAGE) as usize;
         if number < self.pages.len() {

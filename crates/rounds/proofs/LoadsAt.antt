@@ -5,9 +5,8 @@ use Rattle.std.specs.Option.{option_map}
 use Rattle.std.proofs.lemmas.Result.{IfOk-at_ok}
 use Rattle.std.proofs.lemmas.List.Elements.{All-weaker}
 use Rattle.input_form.specs.declared.code.Code.{Code}
-use Rattle.input_form.specs.declared.code.Code.TheVariants as code
 use Rattle.input_form.specs.Judging.{◌>>=◌}
-use Rattle.input_form.proofs.Judged.{at_ok, bind_ok, checked}
+use Rattle.input_form.proofs.Judged.{at_ok, bind_ok}
 use Rattle.tag_section.specs.Section.{Section}
 use Rattle.module_area.specs.declared.entry.Entry.{Entry}
 use Rattle.module_area.specs.declared.book.AreaError.TheVariants.{NoSection, SameName}
@@ -32,16 +31,11 @@ use Rattle.trace_play.specs.Play.{nothing_played, section_len}
 use Rattle.trace_play.proofs.MachineSound.{first_sound}
 use Rattle.trace_play.proofs.ModulesHold.{is_loaded, loaded_one}
 use Rattle.trace_play.proofs.ReadyHolds.{first_modules}
-use Rattle.trace_play.proofs.Told.{not_true}
 use Rattle.trace_play.proofs.TraceFits.{begins_between}
-use Rattle.trace_cover.proofs.Items.{Holds, after_front, items_hold}
+use Rattle.trace_cover.proofs.Items.{Holds, after_front, items_hold, loaded_told, none_of}
 use Rattle.trace_cover.proofs.Told.{front_last}
 use Rattle.rounds.specs.Places.{IsLoad, IsThere, Place, loaded_here, machine_at, refusal_here}
 use Rattle.rounds.specs.declared.desk.Desk.{Desk}
-
-loaded_told : (walk : Walk) (section : ℕ) → IfOk (load_module walk section) (λ next. is_loaded walk section ≡ false)
-unfolding load_module
-loaded_told walk section = checked (λ (next : Walk). is_loaded walk section ≡ false) (not (module_at walk section).loaded) (code.AlreadyLoaded section) _ (λ none. not_true _ none)
 
 -- the first items of those that passed
 pub front_walk : (front back : List Item) (walk end : Walk) → walk_items (front ++ back) walk ≡ Ok end → (mid : Walk) × (walk_items front walk ≡ Ok mid)
@@ -57,10 +51,6 @@ not_early false y z w a b d e = let no : ⊥ = cc in absurd no
 not_early true false z w a b d e = let no : ⊥ = cc in absurd no
 not_early true true false w a b d e = let no : ⊥ = cc in absurd no
 not_early true true true true a b d e = let no : ⊥ = cc in absurd no
-
-none_of : (o : Option Entry) → is_some o ≡ false → o ≡ None
-none_of None e = refl
-none_of (Some x) e = let no : ⊥ = cc in absurd no
 
 module _ (section : ℕ) (p : Place) (i : IsLoad section p) where
   stands : p.trace.body ≡ p.front ++ item.Load i.line section ∷ i.rest

@@ -3,3 +3,4 @@ pub mod RowLemmas
 pub mod EntryLemmas
 pub mod CountLemmas
 pub mod WordLemmas
+pub mod LastLine

@@ -32,6 +32,7 @@ use Rattle.round_worker.specs.declared.keys.Kept.{Kept}
 use Rattle.trace.specs.declared.traces.Item.TheVariants as item
 use Rattle.trace.specs.declared.traces.OnOp.{OnOp}
 use Rattle.trace.specs.declared.traces.Trace.{Trace}
+use Rattle.trace_cover.proofs.Quiet.{range_fails}
 use Rattle.trace_play.specs.Barrier.{all_home, cpus_done, is_named, modules_done, none_on_its_way, on_its_way, round_done, storage_home}
 use Rattle.trace_play.specs.Live.{Content, held_of}
 use Rattle.trace_play.specs.Machine.{Machine, live_cells}
@@ -67,13 +68,6 @@ range_same : (p q : ℕ → Bool) (from many : ℕ) → ((t : ℕ) → from ≤ 
 range_same p q from zero same = refl
 range_same p q from (suc many) same =
     ap₂ (λ a b. a && b) (same from (omega arith) (omega arith)) (range_same p q (from + 1) many (λ t low high. same t (omega (arith, low)) (omega (arith, high))))
-
-range_fails : (p : ℕ → Bool) (from many : ℕ) → list_all p (range_with_len from many) ≡ false → (t : ℕ) × (from ≤ t) × (t < from + many) × (p t ≡ false)
-range_fails p from zero h = let no : ⊥ = cc in absurd no
-range_fails p from (suc many) h =
-    by_bool {P = (t : ℕ) × (from ≤ t) × (t < from + suc many) × (p t ≡ false)} (p from)
-    (λ e. let r = range_fails p (from + 1) many (sym (ap (λ b. b && list_all p (range_with_len (from + 1) many)) e) ∙ h) in (r.0, omega (arith, r.1), omega (arith, r.2), r.3))
-    (λ e. (from, omega arith, omega arith, e))
 
 -- tests that agree at each element
 filter_same : {X : Type 0} (p q : X → Bool) (xs : List X) → All (λ x. p x ≡ q x) xs → filter p xs ≡ filter q xs

@@ -114,11 +114,11 @@ load_covered trace line section m some inside none g c =
 
 -- ---- an item
 
-loaded_told : (walk : Walk) (section : ℕ) → IfOk (load_module walk section) (λ next. is_loaded walk section ≡ false)
+pub loaded_told : (walk : Walk) (section : ℕ) → IfOk (load_module walk section) (λ next. is_loaded walk section ≡ false)
 unfolding load_module
 loaded_told walk section = checked (λ (next : Walk). is_loaded walk section ≡ false) (not (module_at walk section).loaded) (code.AlreadyLoaded section) _ (λ none. not_true _ none)
 
-none_of : (o : Option Entry) → is_some o ≡ false → o ≡ None
+pub none_of : (o : Option Entry) → is_some o ≡ false → o ≡ None
 none_of None e = refl
 none_of (Some x) e = let no : ⊥ = cc in absurd no
 

@@ -193,7 +193,8 @@ range_at p from (suc many) t h low high =
     (λ e. ap p (eqb-true t from e) ∙ both.0)
     (λ e. let differ = eqb-false t from e in range_at p (from + 1) many t both.1 (omega (arith, low, differ)) (omega (arith, high)))
 
-range_fails : (p : ℕ → Bool) (from many : ℕ) → list_all p (range_with_len from many) ≡ false → (t : ℕ) × (from ≤ t) × (t < from + many) × (p t ≡ false)
+-- a test that doesn't hold of all of a range fails somewhere in it
+pub range_fails : (p : ℕ → Bool) (from many : ℕ) → list_all p (range_with_len from many) ≡ false → (t : ℕ) × (from ≤ t) × (t < from + many) × (p t ≡ false)
 range_fails p from zero h = let no : ⊥ = cc in absurd no
 range_fails p from (suc many) h =
     by_bool {P = (t : ℕ) × (from ≤ t) × (t < from + suc many) × (p t ≡ false)} (p from)

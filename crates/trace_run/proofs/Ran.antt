@@ -21,14 +21,14 @@ use Rattle.round_worker.specs.Parting.{AreKept}
 use Rattle.round_worker.specs.Shown.{WorkerShown}
 use Rattle.trace.specs.declared.traces.Item.{Item}
 use Rattle.trace.specs.declared.traces.Trace.{Trace}
-use Rattle.run_text.specs.Lines.{done_line, done_of}
+use Rattle.run_text.specs.Lines.{done_of}
 use Rattle.run_text.specs.declared.done.Done.{Done}
 use Rattle.std.specs.Prelude.{count_by, sum_by}
 use Rattle.trace_play.specs.Live.{Content, Live}
 use Rattle.trace_play.specs.Machine.{Machine, content_cell, live_cells, live_count, slab_cells}
 use Rattle.trace_play.specs.Printed.{dead_of, print_text}
 use Rattle.trace_play.specs.Worker.{Seat}
-use Rattle.trace_play.specs.Play.{done_text, is_round, ops_in}
+use Rattle.trace_play.specs.Play.{is_round, ops_in}
 use Rattle.standing.specs.Standing.{CpusStand}
 use Rattle.standing.proofs.CpusMoved.{stand_at, stand_long}
 use Rattle.standing.proofs.EndTotals.{moved_at}
@@ -134,10 +134,6 @@ begins k trace after items d formed passes same items_are b = record {
 -- behind the last item of a trace
 abbrev pub at_end : (top : Option ℕ) (board : Board) (trace : Trace) → IsFormedTrace trace → rounds_of trace ≡ Ok tt → Place
 at_end top board trace formed passes = record { board = board; trace = trace; top = top; front = trace.body; back = []; formed = formed; passes = passes; stands = sym (append-nil trace.body) }
-
-pub same_line : (body : List Item) (m : Machine) → done_text body m ≡ done_line (done_of body m)
-unfolding done_text done_line
-same_line body m = refl
 
 -- with the counts of a body
 pub numbers_are : (body : List Item) (m : Machine) (rounds ops : ℕ) → rounds ≡ count_by is_round body → ops ≡ sum_by ops_in body

@@ -6,7 +6,7 @@ use Rattle.round_worker.specs.declared.keys.Kept.{Kept}
 use Rattle.round_worker.specs.Kept.{IsKept}
 use Rattle.round_keys.specs.Pages.{InSlots}
 use Rattle.round_keys.specs.Stored.{IsCovered}
-use Rattle.round_keys.proofs.PageLemmas.{all_seen, by_bool, of_seen, seen_at}
+use Rattle.round_keys.proofs.PageLemmas.{all_seen, of_seen, seen_at}
 use Rattle.round_keys.proofs.meeting.meet_pages.Goals as goal
 
 pub meet_page-requires : goal.meet_page-requires

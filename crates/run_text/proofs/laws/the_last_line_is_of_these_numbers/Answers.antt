@@ -1,13 +1,5 @@
-use Rattle.std.proofs.Common.{◌≡◌, List, refl}
-use Rattle.trace.specs.declared.traces.Item.{Item}
-use Rattle.trace_play.specs.Machine.{Machine}
-use Rattle.trace_play.specs.Play.{done_text}
-use Rattle.run_text.specs.Lines.{done_line, done_of}
+use Rattle.run_text.proofs.LastLine.{same_line}
 use Rattle.run_text.proofs.laws.the_last_line_is_of_these_numbers.Goals as goal
-
-same_line : (body : List Item) (m : Machine) → done_text body m ≡ done_line (done_of body m)
-unfolding done_text done_line
-same_line body m = refl
 
 pub returns : goal.returns
 returns c = same_line

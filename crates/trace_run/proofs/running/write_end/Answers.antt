@@ -1,8 +1,9 @@
 use Rattle.std.proofs.Common.{◌++◌, ◌∙◌, ap, sym}
 use Rattle.run_text.specs.Lines.{done_line}
+use Rattle.run_text.proofs.LastLine.{same_line}
 use Rattle.run_text.specs.declared.done.Done.{Done}
 use Rattle.rounds.specs.Places.{machine_at}
-use Rattle.trace_run.proofs.Ran.{numbers_are, same_line}
+use Rattle.trace_run.proofs.Ran.{numbers_are}
 use Rattle.trace_run.proofs.running.write_end.Goals as goal
 
 pub returns-clause-text : goal.returns-clause-text

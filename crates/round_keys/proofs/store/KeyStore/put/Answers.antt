@@ -1,7 +1,8 @@
 use Rattle.std.proofs.Common.{ap, length, nat_cmp, ◌∙◌, ◌<◌, ◌/◌, ◌≡◌}
 use Rattle.std.specs.FinMap.Entries.{put}
 use Rattle.round_worker.specs.Kept.{KeyList}
-use Rattle.round_keys.proofs.PageLemmas.{on_ok, on_err, place_put, place_same}
+use Rattle.round_worker.proofs.KeptLemmas.{on_ok}
+use Rattle.round_keys.proofs.PageLemmas.{on_err, place_put, place_same}
 use Rattle.round_keys.proofs.store.KeyStore.put.Goals as goal
 
 pub returns-clause-put : goal.returns-clause-put

@@ -1,9 +1,8 @@
 use Rattle.std.proofs.Common.{ap, length, nat_cmp, subst, ◌∙◌, ◌<◌, ◌/◌, ◌≤◌, arith}
-use Rattle.std.specs.Bool.{IsTrue}
-use Rattle.std.specs.FinMap.Entries.{find, is_sorted, where_key}
+use Rattle.std.specs.FinMap.Entries.{find, where_key}
 use Rattle.std.proofs.Common.{eqb, not, ◌≡◌}
 use Rattle.round_worker.specs.Kept.{KeyList}
-use Rattle.round_keys.proofs.PageLemmas.{holding, none_taken, none_there, pages_rise, place_found, place_taken}
+use Rattle.round_keys.proofs.PageLemmas.{none_taken, none_there, place_found, place_taken}
 use Rattle.round_keys.proofs.store.KeyStore.take.Goals as goal
 
 pub returns-then-number-len-clause-value : goal.returns-then-number-len-clause-value
@@ -18,10 +17,6 @@ returns-then-number-len-clause-keys c =
     place_taken (λ page. page.items) c.self.inside.pages.items c.args.key c.index_mut.result.now c.take_at.new.slots low c.index_mut.ensures.value c.take_at.ensures.page c.take_at.ensures.taken c.self.invariant.all
     ∙ ap (λ (es : KeyList). where_key nat_cmp (λ other. not (eqb other c.args.key)) es) c.self.view_is
 
-pub returns-then-number-len-clause-rises : goal.returns-then-number-len-clause-rises
-returns-then-number-len-clause-rises c =
-    subst (λ (es : KeyList). IsTrue (is_sorted nat_cmp es)) c.self.view_is (holding _ (pages_rise (λ page. page.items) c.self.inside.pages.items c.self.invariant.all))
-
 pub returns-else-number-len-clause-value : goal.returns-else-number-len-clause-value
 returns-else-number-len-clause-value c =
     let high : length c.self.inside.pages.items ≤ c.args.key / 256 = omega (arith, c.if-number-len.false, c.len.ensures, c.self.inside.pages.ok.0) in
@@ -31,7 +26,3 @@ pub returns-else-number-len-clause-keys : goal.returns-else-number-len-clause-ke
 returns-else-number-len-clause-keys c =
     let high : length c.self.inside.pages.items ≤ c.args.key / 256 = omega (arith, c.if-number-len.false, c.len.ensures, c.self.inside.pages.ok.0) in
     subst (λ (es : KeyList). es ≡ where_key nat_cmp (λ other. not (eqb other c.args.key)) es) c.self.view_is (none_taken (λ page. page.items) c.self.inside.pages.items c.args.key high c.self.invariant.all)
-
-pub returns-else-number-len-clause-rises : goal.returns-else-number-len-clause-rises
-returns-else-number-len-clause-rises c =
-    subst (λ (es : KeyList). IsTrue (is_sorted nat_cmp es)) c.self.view_is (holding _ (pages_rise (λ page. page.items) c.self.inside.pages.items c.self.invariant.all))
