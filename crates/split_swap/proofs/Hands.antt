@@ -2,7 +2,6 @@
 use Rattle.std.proofs.Common.{◌≡◌, ℕ, ◌+◌, ◌-◌, ◌<◌, ◌==◌, true, false, IsTrue, Option, Some, None, ◌⊎◌, refl, ap, sym, ◌∙◌, subst, arith, inl, inr}
 use Rattle.std.proofs.lemmas.Bool.{and_parts, eqb-true, cases_Bool, both_ways}
 use Rattle.std.proofs.lemmas.Grind.{common_steps}
-use Rattle.tag_model.specs.declared.limits.TheConstants.{SIZE_END}
 use Rattle.tag_model.specs.declared.state.CpuPart.{CpuPart}
 use Rattle.tag_model.specs.declared.state.Hand.{Hand}
 use Rattle.tag_model.specs.declared.state.Held.{Held}
@@ -17,47 +16,10 @@ use Rattle.tag_model.proofs.MovedWords.{raises_is}
 use Rattle.tag_rule.specs.Shown.{Board, CpuShown}
 use Rattle.tag_rule.specs.Steps.{with_hand, hand_after}
 use Rattle.tag_ref.specs.Refs.{moved_by}
-use Rattle.tag_ref.proofs.RefSteps.{one_call, taken, given, may_give, made, at_rest, shown, wrote}
-
-itself : (n : ℕ) → (n == n) ≡ true
-itself n = grind arith
-
-same_itself : (tag : Tag) → same_tag tag tag ≡ true
-same_itself tag = rw (itself tag.number, itself tag.module) refl
+use Rattle.tag_ref.proofs.Halves.{parted_hand, same_itself, two_calls}
+use Rattle.tag_ref.proofs.RefSteps.{one_call, taken, given, made, at_rest, shown, wrote}
 
 -- ---- a reference that two cells share
-
--- a hand with two calls
-abbrev pub two_calls : Tag → ℕ → Hand
-two_calls tag bytes = record { tag = tag; bytes = bytes; calls = 2; opening = false }
-
--- a cell that takes one of two halves
-pub parted_hand : (tag : Tag) (half : ℕ) → hand_after (Some (two_calls tag (half + half))) held.None (held.Counted tag half) ≡ Some (one_call tag half false)
-parted_hand tag half = rw (same_itself tag) (let n : half + half + 0 - half ≡ half = omega arith in ap (λ bytes. Some (one_call tag bytes false)) n)
-
-half_fits : (tag : Tag) (half : ℕ) → 0 < half → half + half < SIZE_END → IsTrue (held_fits (held.Counted tag half))
-half_fits tag half some below = grind (arith, common_steps)
-
-one_half_fits : (tag : Tag) (half : ℕ) → half + half < SIZE_END → IsTrue (hand_fits (Some (one_call tag half false)))
-one_half_fits tag half below = grind (arith, common_steps)
-
-two_halves : (kind : Kind) (named tag : Tag) (half : ℕ) → hand_counts_of kind named (Some (two_calls tag (half + half))) ≡ hand_counts_of kind named (Some (one_call tag half false)) + held_counts_of kind named (held.Counted tag half)
-two_halves Bytes named tag half = grind (arith, common_steps)
-two_halves Calls named tag half = grind (arith, common_steps)
-
-pub may_part : (c : CpuPart) (was : Held) (tag : Tag) (half : ℕ) → was ≡ held.None → c.hand ≡ Some (two_calls tag (half + half)) → 0 < half → half + half < SIZE_END
-    → WritesPlace c (with_hand (hand_after c.hand was (held.Counted tag half)) c) was (held.Counted tag half)
-may_part c was tag half none is some below =
-    let after : hand_after c.hand held.None (held.Counted tag half) ≡ Some (one_call tag half false) = ap (λ hand. hand_after hand held.None (held.Counted tag half)) is ∙ parted_hand tag half in
-    let here : WritesPlace c (with_hand (hand_after c.hand held.None (held.Counted tag half)) c) held.None (held.Counted tag half) =
-    subst (λ hand. WritesPlace c (with_hand hand c) held.None (held.Counted tag half)) (sym after) (record {
-      place_fits = half_fits tag half some below;
-      hand_fits = one_half_fits tag half below;
-      stays = λ kind named. let all : hand_counts_of kind named c.hand ≡ hand_counts_of kind named (Some (two_calls tag (half + half))) = ap (hand_counts_of kind named) is in omega (arith, all, two_halves kind named tag half);
-      settled = inr refl;
-      after = refl;
-    }) in
-    subst (λ h. WritesPlace c (with_hand (hand_after c.hand h (held.Counted tag half)) c) h (held.Counted tag half)) (sym none) here
 
 same_shown : (a b : Board) (p q : CpuPart) → a ≡ b → p ≡ q → shown a p ≡ shown b q
 same_shown a b p q boards parts = ap (λ board. shown board p) boards ∙ ap (shown b) parts
@@ -79,11 +41,6 @@ pub first_half : (cpu counted after : CpuShown) (was : Held) (tag : Tag) (half :
 first_half cpu counted after was tag half none is write =
     let left : Option Hand → CpuShown = λ hand. shown cpu.board (made cpu.part (raised Calls tag.number 1 cpu.part.words) hand) in
     write ∙ ap (λ h. wrote counted h (held.Counted tag half)) none ∙ ap (λ (p : CpuShown). wrote p held.None (held.Counted tag half)) is ∙ ap left (parted_hand tag half)
-
-pub may_end : (c : CpuPart) (was : Held) (tag : Tag) (half : ℕ) → was ≡ held.None → c.hand ≡ Some (one_call tag half false) → 0 < half → half < SIZE_END
-    → WritesPlace c (with_hand (hand_after c.hand was (held.Counted tag half)) c) was (held.Counted tag half)
-may_end c was tag half none is some below =
-    subst (λ h. WritesPlace c (with_hand (hand_after c.hand h (held.Counted tag half)) c) h (held.Counted tag half)) (sym none) (may_give c tag half false is some below)
 
 -- the second cell has its half, and nothing is in hand
 pub both_halves : (cpu before after : CpuShown) (was whole : Held) (tag : Tag) (half : ℕ) → cpu.part.hand ≡ None → was ≡ held.None → whole ≡ held.Counted tag (half + half)

@@ -1,1 +1,2 @@
 pub mod RefSteps
+pub mod Halves

@@ -3,7 +3,8 @@ use Rattle.tag_model.specs.declared.state.Kind.TheVariants.{Calls}
 use Rattle.tag_model.specs.StepRules.{raised}
 use Rattle.tag_rule.specs.Shown.{CpuShown}
 use Rattle.tag_ref.proofs.RefSteps.{one_call, made, shown, takes}
-use Rattle.split_swap.proofs.Hands.{two_calls, may_part, may_end, adds_call, first_half, both_halves}
+use Rattle.tag_ref.proofs.Halves.{may_end, may_part, two_calls}
+use Rattle.split_swap.proofs.Hands.{adds_call, first_half, both_halves}
 use Rattle.split_swap.proofs.refs.share.Goals as goal
 
 -- the CPU once the call is added
