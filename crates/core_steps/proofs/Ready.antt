@@ -128,7 +128,7 @@ live_free places waiting named key live names =
     let free = (and_parts (is_counted (held_at places named)) (not (is_reserved named waiting)) live).1 in
     subst (λ (k : ℕ). is_reserved k waiting ≡ false) same (grind (arith, nat_tests))
 
-live_counted : (places : List Held) (waiting : List Waiting) (key : ℕ) → is_live places waiting key ≡ true → is_counted (held_at places key) ≡ true
+pub live_counted : (places : List Held) (waiting : List Waiting) (key : ℕ) → is_live places waiting key ≡ true → is_counted (held_at places key) ≡ true
 live_counted places waiting key live = (and_parts (is_counted (held_at places key)) (not (is_reserved key waiting)) live).0
 
 -- an allocation that isn't refused has an unused key, and a tag that it may use

@@ -33,6 +33,7 @@ use Rattle.core_steps.specs.RefOps.{MayDoIf, done_if, ref_op}
 use Rattle.core_steps.proofs.Hands.{passes}
 use Rattle.core_steps.proofs.Kept.{first_passes}
 use Rattle.core_steps.proofs.LivePlaces.{live_held, live_set, lives_of}
+use Rattle.core_steps.proofs.Ready.{live_counted}
 use Rattle.core_steps.proofs.SplitRun.{counted_is}
 use Rattle.core_steps.proofs.Splits.{SplitPasses, new_key_from, part_below, part_later, rest_hand, share_written, split_passes, unused_key}
 use Rattle.core_steps.proofs.Steps.{Stepped, UnderWay, after_more, in_free, ready_at, takes_step, under_way, waits_below}
@@ -81,10 +82,6 @@ written : (s next : CoreState) (key : ℕ) (h : Held) → IsCore s → key < KEY
 written s next key h core below is =
     lives_of next ∙ (ap (λ (ps : List Held). live_of (place_parts 0 ps)) is ∙ (live_set s.machine.places key h (key_place s key core below) ∙ ap (with_held key h) (sym (lives_of s))))
 
--- what passes its first check holds a reference
-holds_some : (places : List Held) (waiting : List Waiting) (key : ℕ) → is_live places waiting key ≡ true → is_counted (held_at places key) ≡ true
-holds_some places waiting key live = (and_parts (is_counted (held_at places key)) (not (is_reserved key waiting)) live).0
-
 some_held : (x y : Held) → x ≡ y → is_counted y ≡ true → x ≢ held.None
 some_held x y same c none = absurd (let bad : is_counted held.None ≡ true = subst (λ (h : Held). is_counted h ≡ true) (sym same ∙ none) c in cc)
 
@@ -123,7 +120,7 @@ trim_done s cpu key bytes ops core b =
     let places = s.machine.places in
     let x = held_at places key in
     let below = (may_queue s cpu op ops core b).key_below in
-    let c = holds_some places s.machine.waiting key (passes _ _ _ (first_free s cpu op ops core b)).0 in
+    let c = live_counted places s.machine.waiting key (passes _ _ _ (first_free s cpu op ops core b)).0 in
     let p1 = places_next s cpu op ops core b 0 _ (omega arith) refl in
     let p2 = places_next s cpu op ops core b 1 _ (omega arith) refl in
     let p3 = places_next s cpu op ops core b 2 _ (omega arith) refl in
@@ -144,8 +141,8 @@ swap_done s cpu one two ops core b =
     let second = passes _ _ _ first.1 in
     let a = held_at places one in
     let d = held_at places two in
-    let counted_one = holds_some places s.machine.waiting one first.0 in
-    let counted_two = holds_some places s.machine.waiting two second.0 in
+    let counted_one = live_counted places s.machine.waiting one first.0 in
+    let counted_two = live_counted places s.machine.waiting two second.0 in
     let p1 = places_next s cpu op ops core b 0 _ (omega arith) refl in
     let p2 = places_next s cpu op ops core b 1 _ (omega arith) refl in
     let p3 = places_next s cpu op ops core b 2 _ (omega arith) refl in
@@ -183,7 +180,7 @@ module _ (s : CoreState) (cpu key parts first : ℕ) (ops : List CpuOp) (core : 
   was =
       let two = is_split.two_parts in
       let x = held_at s.machine.places key in
-      let c = holds_some s.machine.places s.machine.waiting key parts_pass.live in
+      let c = live_counted s.machine.places s.machine.waiting key parts_pass.live in
       let h1 = hand_next s cpu (Split key parts first) ops core b 0 (clear_step key s.machine.places) (omega arith) refl in
       sym (put_back x c) ∙ ap put_down (sym h1 ∙ in_parts.held)
 
@@ -345,12 +342,12 @@ op_may s cpu (Open key section index size) ops core b =
     (live_key s key core is.key_below ∙ (unused_key s.machine.places s.machine.waiting key unused).0, is.some_bytes)
 op_may s cpu (Close key) ops core b =
     let is = may_queue s cpu (Close key) ops core b in
-    some_held _ _ (live_key s key core is.key_below) (holds_some s.machine.places s.machine.waiting key (passes _ _ _ (first_free s cpu (Close key) ops core b)).0)
+    some_held _ _ (live_key s key core is.key_below) (live_counted s.machine.places s.machine.waiting key (passes _ _ _ (first_free s cpu (Close key) ops core b)).0)
 op_may s cpu (Split key parts first) ops core b =
     let is = is_split s cpu key parts first ops core b in
     let p = parts_pass s cpu key parts first ops core b in
     let places = s.machine.places in
-    let even : is_even parts (held_at places key) ≡ true = parts_even parts (held_at places key) p.even (holds_some places s.machine.waiting key p.live) in
+    let even : is_even parts (held_at places key) ≡ true = parts_even parts (held_at places key) p.even (live_counted places s.machine.waiting key p.live) in
     let two = is.two_parts in
     let count : length (new_keys parts first) + 1 ≡ parts = omega (arith, length-range_with_len first (parts - 1)) in (
       are_new (live_of (word_state s)) key first (parts - 1)
@@ -364,13 +361,13 @@ op_may s cpu (Swap one two) ops core b =
     let is = may_queue s cpu (Swap one two) ops core b in
     let a = passes _ _ _ (first_free s cpu (Swap one two) ops core b) in
     let c = passes _ _ _ a.1 in (
-      some_held _ _ (live_key s one core is.first.key_below) (holds_some s.machine.places s.machine.waiting one a.0),
-      some_held _ _ (live_key s two core is.second.key_below) (holds_some s.machine.places s.machine.waiting two c.0),
+      some_held _ _ (live_key s one core is.first.key_below) (live_counted s.machine.places s.machine.waiting one a.0),
+      some_held _ _ (live_key s two core is.second.key_below) (live_counted s.machine.places s.machine.waiting two c.0),
     )
 op_may s cpu (Trim key bytes) ops core b =
     let is = may_queue s cpu (Trim key bytes) ops core b in
     let a = passes _ _ _ (first_free s cpu (Trim key bytes) ops core b) in
     let c = passes _ _ _ a.1 in
-    subst (list.LeavesSome bytes) (sym (live_key s key core is.key_below)) (leaves_some bytes (held_at s.machine.places key) (holds_some s.machine.places s.machine.waiting key a.0) c.0)
+    subst (list.LeavesSome bytes) (sym (live_key s key core is.key_below)) (leaves_some bytes (held_at s.machine.places key) (live_counted s.machine.places s.machine.waiting key a.0) c.0)
 op_may s cpu (Enter section) ops core b = tt
 op_may s cpu (Leave section) ops core b = tt

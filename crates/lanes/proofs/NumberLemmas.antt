@@ -3,7 +3,7 @@ use Rattle.std.proofs.Common.{◌≡◌, ◌≢◌, ◌<◌, ◌≤◌, ◌+◌,
 use Rattle.std.proofs.lemmas.Bool.{cases_eq, eq-eqb, ne_eqb}
 use Rattle.std.proofs.lemmas.List.{append-nil, get_or-map, get_or-set_other, get_or-set_same, length-set, map-append, map-set, same_lists}
 use Rattle.std.proofs.lemmas.List.Elements.{filter-append}
-use Rattle.std.proofs.lemmas.List.FromFn.{get_or-map-range_with_len, length-map-range_with_len}
+use Rattle.std.proofs.lemmas.List.FromFn.{get_or-map-range_with_len, length-map-range_with_len, map-range_with_len_more}
 use Rattle.std.specs.Prelude.{◌==◌, filter}
 use Rattle.std.specs.List.{range_with_len}
 use Rattle.tag_rule.specs.Shown.{CpuShown}
@@ -95,10 +95,6 @@ pub ops_of_each : (ops : List OnOp) (numbers : List ℕ) → map (λ (lane : Lan
 ops_of_each ops [] = refl
 ops_of_each ops (cpu ∷ numbers) = ap (λ rest. ops_of cpu ops ∷ rest) (ops_of_each ops numbers)
 
-range_more : (a n : ℕ) → range_with_len a (suc n) ≡ range_with_len a n ++ (a + n) ∷ []
-range_more a zero = rw add-zero refl
-range_more a (suc n) = let place : a + 1 + n ≡ a + suc n = omega arith in ap (λ (xs : List ℕ). a ∷ xs) (range_more (a + 1) n ∙ ap (λ (k : ℕ). range_with_len (a + 1) n ++ k ∷ []) place)
-
 abbrev lane_of : List OnOp → ℕ → Lane
 lane_of ops cpu = filter (λ (on : OnOp). on.cpu == cpu) ops
 
@@ -106,11 +102,10 @@ lane_of ops cpu = filter (λ (on : OnOp). on.cpu == cpu) ops
 pub lanes_more : {V : Type 0} (items : V → Lane) (count : ℕ) (ops : List OnOp) (before : List V) (lane : V) → map items before ≡ lanes_of count ops → items lane ≡ lane_of ops count
     → map items (before ++ lane ∷ []) ≡ lanes_of (count + 1) ops
 lanes_more items count ops before lane is one =
-    let more : range_with_len 0 (count + 1) ≡ range_with_len 0 count ++ count ∷ [] = rw add-one (range_more 0 count ∙ ap (λ (k : ℕ). range_with_len 0 count ++ k ∷ []) (zero-add count)) in
     map-append items before (lane ∷ [])
     ∙ ap (λ (lanes : List Lane). lanes ++ items lane ∷ []) is
     ∙ ap (λ (last : Lane). lanes_of count ops ++ last ∷ []) one
-    ∙ sym (ap (λ (numbers : List ℕ). map (lane_of ops) numbers) more ∙ map-append (lane_of ops) (range_with_len 0 count) (count ∷ []))
+    ∙ sym (map-range_with_len_more (lane_of ops) 0 count count (zero-add count))
 
 -- ---- one op more
 

@@ -1,6 +1,6 @@
 -- The workers so far, and the pools that are left for those that come.
 use Rattle.std.proofs.Common.{◌≡◌, ◌+◌, ◌-◌, ◌<◌, ◌++◌, ℕ, zero, suc, List, [], ◌∷◌, add-one, add-zero, arith, ap, drop, length, map, refl, sym, take, zero-add, ◌∙◌}
-use Rattle.std.proofs.lemmas.List.{map-append}
+use Rattle.std.proofs.lemmas.List.FromFn.{map-range_with_len_more}
 use Rattle.std.specs.Prelude.{slice_index_or}
 use Rattle.std.specs.List.{range_with_len}
 use Rattle.tag_rule.specs.Made.{fresh_vectors}
@@ -31,15 +31,10 @@ module _ (b : Board) (cpu end : ℕ) (below : cpu < end) where
 
 -- ---- workers
 
-range_more : (a n : ℕ) → range_with_len a (suc n) ≡ range_with_len a n ++ (a + n) ∷ []
-range_more a zero = rw add-zero refl
-range_more a (suc n) = let place : a + 1 + n ≡ a + suc n = omega arith in ap (λ (xs : List ℕ). a ∷ xs) (range_more (a + 1) n ∙ ap (λ (k : ℕ). range_with_len (a + 1) n ++ k ∷ []) place)
-
 -- one worker more
 pub workers_more : (b board : Board) (frames vectors cpu : ℕ) (before : List WorkerShown) (worker : WorkerShown) → before ≡ fresh_workers b frames vectors cpu → worker ≡ fresh_worker board frames vectors cpu → board ≡ b
     → before ++ worker ∷ [] ≡ fresh_workers b frames vectors (cpu + 1)
 workers_more b board frames vectors cpu before worker is one same =
-    let more : range_with_len 0 (cpu + 1) ≡ range_with_len 0 cpu ++ cpu ∷ [] = rw add-one (range_more 0 cpu ∙ ap (λ (k : ℕ). range_with_len 0 cpu ++ k ∷ []) (zero-add cpu)) in
     ap (λ (ws : List WorkerShown). ws ++ worker ∷ []) is
     ∙ ap (λ (w : WorkerShown). fresh_workers b frames vectors cpu ++ w ∷ []) (one ∙ ap (λ (x : Board). fresh_worker x frames vectors cpu) same)
-    ∙ sym (ap (λ (numbers : List ℕ). map (fresh_worker b frames vectors) numbers) more ∙ map-append (fresh_worker b frames vectors) (range_with_len 0 cpu) (cpu ∷ []))
+    ∙ sym (map-range_with_len_more (fresh_worker b frames vectors) 0 cpu cpu (zero-add cpu))

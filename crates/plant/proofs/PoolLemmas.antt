@@ -8,7 +8,7 @@ use Rattle.std.specs.List.{list_any, range_with_len}
 use Rattle.tag_model.specs.Index.{object_index, page_index}
 use Rattle.tag_rule.specs.Made.{fresh_vectors}
 use Rattle.tag_rule.specs.Shown.{Board, PoolShown, has}
-use Rattle.slab_ext.specs.Vectors.{IsWhole}
+use Rattle.slab_ext.proofs.Made.{count_vectors}
 use Rattle.plant.specs.Fresh.{pages_of}
 
 has_at : (first size n : ℕ) → first ≤ n → n < first + size → list_any (λ (cell : ℕ). cell == n) (range_with_len first size) ≡ true
@@ -26,39 +26,6 @@ has_page b cpu frames frame few below =
     let first = page_index b.shape cpu 0 in
     has_at first b.shape.frames (page_index b.shape cpu frame) (omega arith) (omega (arith, few, below))
 
--- the pool of a vector
-abbrev vector_of : Board → ℕ → ℕ → PoolShown
-vector_of b cpu number = record { board = b; cells = range_with_len (object_index b.shape cpu number 0) 64 }
-
-whole_vector : (b : Board) (cpu number : ℕ) → cpu < b.shape.cpus → number < b.shape.vectors → IsWhole cpu number (vector_of b cpu number)
-whole_vector b cpu number one in_shape = record {
-  one = one;
-  in_shape = in_shape;
-  cells = λ place below. has_at (object_index b.shape cpu number 0) 64 (object_index b.shape cpu number place) (omega arith) (omega (arith, below));
-}
-
--- ---- the vectors of a CPU
-
-abbrev vectors_at : Board → ℕ → ℕ → ℕ → List PoolShown
-vectors_at b cpu from count = map (vector_of b cpu) (range_with_len from count)
-
--- the pool of a number, of so many from one on
-at_number : (b : Board) (cpu from count number : ℕ) (pool : PoolShown) → slice_get (vectors_at b cpu from count) number ≡ Some pool → pool ≡ vector_of b cpu (from + number)
-at_number b cpu from zero number pool is = absurd (none_at number is)
-  where
-    none_at : (n : ℕ) → slice_get [] n ≡ Some pool → ⊥
-    none_at zero e = cc
-    none_at (suc n) e = cc
-at_number b cpu from (suc count) zero pool is = sym (ap (λ (o : Option PoolShown). unwrap_or o pool) is) ∙ ap (vector_of b cpu) (omega arith)
-at_number b cpu from (suc count) (suc number) pool is = at_number b cpu (from + 1) count number pool is ∙ ap (vector_of b cpu) (omega arith)
-
-pub all_whole : (b : Board) (cpu number : ℕ) (pool : PoolShown) → cpu < b.shape.cpus → number < b.shape.vectors → slice_get (fresh_vectors b cpu) number ≡ Some pool → IsWhole cpu number pool
-all_whole b cpu number pool one in_shape is =
-    subst (IsWhole cpu number) (sym (at_number b cpu 0 b.shape.vectors number pool is ∙ ap (vector_of b cpu) (omega arith))) (whole_vector b cpu number one in_shape)
-
-pub of_board : (b : Board) (cpu number : ℕ) (pool : PoolShown) → slice_get (fresh_vectors b cpu) number ≡ Some pool → pool.board ≡ b
-of_board b cpu number pool is = ap (λ (p : PoolShown). p.board) (at_number b cpu 0 b.shape.vectors number pool is)
-
 -- ---- what the meaning reads
 
 pub all_in : {A : Type 0} (pools : List A) → map (λ (o : Option A). is_none o) (map (λ (pool : A). Some pool) pools) ≡ replicate (length pools) false
@@ -68,9 +35,6 @@ all_in (pool ∷ pools) = ap (λ (rest : List Bool). false ∷ rest) (all_in poo
 pub none_still : {A B : Type 0} (f : Option A → Option B) → f None ≡ None → (n : ℕ) → map f (replicate n None) ≡ replicate n None
 none_still f is zero = refl
 none_still f is (suc n) = λ i. is i ∷ none_still f is n i
-
-count_vectors : (b : Board) (cpu : ℕ) → length (fresh_vectors b cpu) ≡ b.shape.vectors
-count_vectors b cpu = length-map-range_with_len (vector_of b cpu) 0 b.shape.vectors
 
 pub enough : (b : Board) (cpu vectors : ℕ) (pools : List PoolShown) → vectors ≤ b.shape.vectors → pools ≡ fresh_vectors b cpu → vectors ≤ length pools
 enough b cpu vectors pools few are = omega (arith, few, ap (λ (ps : List PoolShown). length ps) are ∙ count_vectors b cpu)

@@ -11,21 +11,6 @@ use Rattle.round_worker.specs.Working.{shown}
 use Rattle.plant.specs.Fresh.{fresh_worker}
 use Rattle.plant.proofs.PoolLemmas.{all_in, none_still}
 
--- what is in, of the first so many
-pub inside_first : (count : ℕ) (pools : List PoolShown) (number : ℕ) (pool : PoolShown) → slice_get (map (λ (p : PoolShown). Some p) (take count pools)) number ≡ Some (Some pool) → slice_get pools number ≡ Some pool
-inside_first zero pools number pool is = absurd (none_at number is)
-  where
-    none_at : (n : ℕ) → slice_get [] n ≡ Some (Some pool) → ⊥
-    none_at zero e = cc
-    none_at (suc n) e = cc
-inside_first (suc count) [] number pool is = absurd (none_at number is)
-  where
-    none_at : (n : ℕ) → slice_get [] n ≡ Some (Some pool) → ⊥
-    none_at zero e = cc
-    none_at (suc n) e = cc
-inside_first (suc count) (p ∷ pools) zero pool is = ap (λ (o : Option (Option PoolShown)). unwrap_or o (Some pool)) is
-inside_first (suc count) (p ∷ pools) (suc number) pool is = inside_first count pools number pool is
-
 length_first : (count : ℕ) (pools : List PoolShown) → count ≤ length pools → length (take count pools) ≡ count
 length_first zero pools few = refl
 length_first (suc count) [] few = absurd (omega (arith, few))

@@ -40,6 +40,7 @@ use Rattle.reclaim.specs.State.{LockedShown, IsLocked, IsNamed, part_of, is_stil
 use Rattle.reclaim.specs.Steps.{Reads, with_listing}
 use Rattle.reclaim.specs.Sweeps.{Unloaded, released, with_entries}
 use Rattle.reclaim.proofs.Clean.{part_after, with_part}
+use Rattle.reclaim.proofs.Enter.{id_of}
 use Rattle.reclaim.proofs.Reading.{IsInRecord, reads_above_zero, reads_account, reads_keep, reads_some, reads_within}
 
 -- ---- one module alone is swept: it is left on the list, or has the one stop
@@ -260,9 +261,6 @@ unloaded_gone l new e p swept first is = subst (λ (x : LockedShown). Unloaded e
 pub release_first : (id : ℕ) (p : ListPart) → OneSwept id p → slice_get p.stops 0 ≡ None → releasable p.sweep ≡ Some id
 release_first id p (goes none done) first = ap releasable done
 release_first id p (stays s one its_id sum) first = absurd (none-some s (sym first ∙ ap (λ st. slice_get st 0) one))
-
-id_of : (l : LockedShown) (id : ℕ) (e : Entry) → entry_of l.area.entries id ≡ Some e → e.id ≡ id
-id_of l id e found = eqb-true e.id id (find_some (λ (x : Entry). x.id == id) l.area.entries e found).1
 
 -- of whichever entry the id has
 pub kept_as : (old l new : LockedShown) (id : ℕ) (p : ListPart) (stop : Stop) → l ≡ old → slice_get p.stops 0 ≡ Some stop → new ≡ with_part p (marked id l)

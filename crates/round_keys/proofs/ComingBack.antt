@@ -27,13 +27,10 @@ use Rattle.trace_play.proofs.SideBySide.{each_has, unnamed}
 use Rattle.trace_play.proofs.TraceFits.{before_round, rounds_fit}
 use Rattle.round_worker.specs.Shown.{WorkerShown}
 use Rattle.round_keys.specs.Handed.{names, handed_to, is_cpu, handed, is_handed}
+use Rattle.round_keys.proofs.HandLemmas.{or_nothing}
 use Rattle.round_keys.proofs.OwnersNamed.{bound_to_owner}
 
 -- ---- keys put back, CPU by CPU
-
-or_none : {A : Type 0} (o : Option A) → option_or o None ≡ o
-or_none None = refl
-or_none (Some x) = refl
 
 -- each CPU's own keys of a live list
 abbrev pub back_from : (ℕ → ℕ → Bool) → Live → Live → List ℕ → Live
@@ -61,7 +58,7 @@ module _ (own : ℕ → ℕ → Bool) (live : Live) (up : T (rises live)) (q : �
       no_one_puts count (from + 1) (put_all into (kept (own from) live)) (λ cpu above below. apart one cpu (λ e. omega arith) q is)
       ∙ one_put from into
       ∙ ap (λ b. option_or (cond b (entry_at q live) None) (entry_at q into)) (subst (λ c. own c q ≡ true) same_cpu is)
-      ∙ ap (option_or (entry_at q live)) none ∙ or_none (entry_at q live))
+      ∙ ap (option_or (entry_at q live)) none ∙ or_nothing (entry_at q live))
       (λ differ.
       let other : one ≡ from → ⊥ = λ e. let no : ⊥ = cc (eq-eqb one from e, differ) in no in
       some_one_puts apart count (from + 1) (put_all into (kept (own from) live)) one (above_it other) (omega arith) is

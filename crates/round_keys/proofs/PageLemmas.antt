@@ -12,6 +12,7 @@ use Rattle.std.proofs.Math.Nat.{div-add-mod, mod-lt}
 use Rattle.trace_play.proofs.Entries.{find_below, find_put, find_kept, sorted_put, sorted_kept, same}
 use Rattle.round_check.proofs.Named.{by_bool}
 use Rattle.round_keys.specs.Pages.{IsPage, slot_at, slots_from, pages_from}
+use Rattle.round_keys.proofs.HandLemmas.{or_nothing}
 
 -- what the pages hold at a key's place
 abbrev pub slot_in : {X : Type 0} → List (List (Option X)) → ℕ → Option X
@@ -136,10 +137,6 @@ module _ {X : Type 0} where
         | false ↦ find_both q es fs
       ]
 
-  or_none : (o : Option X) → option_or o None ≡ o
-  or_none None = refl
-  or_none (Some x) = refl
-
   page_found : (from index place : ℕ) (pages : List (List (Option X))) → place < 256 → All (λ (page : List (Option X)). IsPage page) pages
       → find nat_cmp (256 * (from + index) + place) (pages_from from pages) ≡ slot_at (get_or pages index []) place
   page_found from index place [] low all = refl
@@ -149,7 +146,7 @@ module _ {X : Type 0} where
       let later : find nat_cmp q (pages_from (from + 1) pages) ≡ None = find_below q (pages_from (from + 1) pages) (below_pages q (from + 1) pages (omega arith)) in
       find_both q (slots_from (256 * from) page) (pages_from (from + 1) pages)
       ∙ ap (option_or (find nat_cmp q (slots_from (256 * from) page))) later
-      ∙ or_none (find nat_cmp q (slots_from (256 * from) page))
+      ∙ or_nothing (find nat_cmp q (slots_from (256 * from) page))
       ∙ ap (λ k. find nat_cmp k (slots_from (256 * from) page)) at
       ∙ slot_found (256 * from) place page
   page_found from (suc index) place (page ∷ pages) low all =

@@ -36,6 +36,7 @@ use Rattle.slab_cache.specs.declared.object.Stored.TheVariants.{Pages, InSlab}
 use Rattle.slab_cache.specs.declared.place.Place.{Place}
 use Rattle.slab_cache.specs.declared.place.PlaceCell.{PlaceCell}
 use Rattle.slab_cache.proofs.TableLemmas.{position_of_map}
+use Rattle.slab_cache.proofs.SlabLemmas.{cell_at}
 use Rattle.slab_cache.proofs.NodeLemmas.{VectorTaken, are_set, find_slab, length-with_out, number_in, same_lowest, shown, slab_state, slab_whole, stands_set, state_out, still_in, with_out}
 
 -- ---- a slab changes: its class, its block and its vector stay, or it goes
@@ -100,9 +101,6 @@ place_are node frame after place stands are takes =
     subst (λ ss. AreSlabs node.vectors ss) (sym takes.now) moved.are
 
 -- ---- the place of a slab, and its cell
-
-abbrev cell_at : Board → ℕ → ℕ → ℕ → PlaceCell
-cell_at board home place vector = record { vector = vector; seat = record { board = board; first = object_index board.shape home vector place; count = 1; held = held.None } }
 
 abbrev with_cell : ℕ → ℕ → ℕ → Option PlaceCell → Place
 with_cell home frame place cell = record { home = home; frame = frame; place = place; cell = cell }

@@ -22,13 +22,11 @@ use Rattle.slab_cache.specs.declared.object.Stored.TheVariants.{InSlab}
 use Rattle.slab_cache.specs.declared.place.Place.{Place}
 use Rattle.slab_cache.specs.declared.place.PlaceCell.{PlaceCell}
 use Rattle.slab_cache.proofs.GivenLemmas.{Changed, Same, changed, stands_pages}
+use Rattle.slab_cache.proofs.SlabLemmas.{cell_at}
 use Rattle.slab_cache.proofs.NodeLemmas.{find_slab, number_in, shown, slab_state, slab_whole}
 
 abbrev place_of : ℕ → ℕ → ℕ → Option PlaceCell → Place
 place_of home frame at cell = record { home = home; frame = frame; place = at; cell = cell }
-
-abbrev cell_at : Board → ℕ → ℕ → ℕ → PlaceCell
-cell_at board home place vector = record { vector = vector; seat = record { board = board; first = object_index board.shape home vector place; count = 1; held = held.None } }
 
 -- ---- the place is one of a slab of the node
 

@@ -20,10 +20,8 @@ use Rattle.slab_cache.specs.declared.place.PlaceCell.{PlaceCell}
 use Rattle.slab_cache.proofs.Cells.{all_in, free_after_give, free_after_take, whole_free}
 use Rattle.slab_cache.proofs.ClassLemmas.{classes_differ, objects_few}
 use Rattle.slab_cache.proofs.Marks.{length_marks}
+use Rattle.slab_cache.proofs.NodeLemmas.{number_in}
 use Rattle.slab_cache.proofs.Places.{Gives, Lowest, Takes, all_set, any_free, any_taken, fits_word, lowest}
-
-abbrev number_in : Option VectorShown → Option ℕ
-number_in = option_map (λ (v : VectorShown). v.number)
 
 abbrev CellsOf : Board → ℕ → ℕ → ℕ → Option VectorShown → Type 0
 CellsOf board home objects free vector = (v : VectorShown) → vector ≡ Some v → HasFree board home objects free v
@@ -84,7 +82,7 @@ takes_cells {home} {place} board objects free left (OneCell {vector} {after} {ce
     subst (λ w. HasFree board home objects left w) (same_Some after v is) (free_after_take board home objects free left place vector after cell (cells vector refl) t bits within)
 
 -- the cell of a place in the vector with a number
-abbrev cell_at : Board → ℕ → ℕ → ℕ → PlaceCell
+abbrev pub cell_at : Board → ℕ → ℕ → ℕ → PlaceCell
 cell_at board home place vector = record { vector = vector; seat = record { board = board; first = object_index board.shape home vector place; count = 1; held = held.None } }
 
 pub takes_cell : {home place : ℕ} {vector after : Option VectorShown} {cell : Option PlaceCell} (board : Board) → TakesOne home place vector after cell → ((v : VectorShown) → vector ≡ Some v → v.pool.board ≡ board) → cell ≡ option_map (cell_at board home place) (number_in vector)

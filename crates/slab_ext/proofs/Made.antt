@@ -1,5 +1,5 @@
 -- The pools that a table is made with have all cells of their vectors.
-use Rattle.std.proofs.Common.{ℕ, ◌≡◌, ◌+◌, ◌<◌, List, slice_get, map, option_map, Some, sym, ap, ◌∙◌, subst, arith}
+use Rattle.std.proofs.Common.{ℕ, zero, suc, ◌≡◌, ◌+◌, ◌<◌, List, [], ◌∷◌, length, take, slice_get, map, Option, option_map, unwrap_or, Some, sym, ap, ◌∙◌, subst, arith}
 use Rattle.std.specs.List.{range_with_len}
 use Rattle.std.proofs.lemmas.Bool.{and_from, le-leb, lt-ltb}
 use Rattle.std.proofs.lemmas.List.FromFn.{length-map-range_with_len, get_or-map-range_with_len}
@@ -9,6 +9,33 @@ use Rattle.tag_rule.specs.Made.{fresh_vectors}
 use Rattle.tag_rule.specs.Shown.{Board, PoolShown}
 use Rattle.tag_rule.proofs.Runs.{has_range}
 use Rattle.slab_ext.specs.Vectors.{IsWhole}
+
+abbrev pub vector_of : Board → ℕ → ℕ → PoolShown
+vector_of b cpu number = record { board = b; cells = range_with_len (object_index b.shape cpu number 0) 64 }
+
+pub count_vectors : (b : Board) (cpu : ℕ) → length (fresh_vectors b cpu) ≡ b.shape.vectors
+count_vectors b cpu = length-map-range_with_len (vector_of b cpu) 0 b.shape.vectors
+
+pub of_board : (b : Board) (cpu number : ℕ) (pool : PoolShown) → slice_get (fresh_vectors b cpu) number ≡ Some pool → pool.board ≡ b
+of_board b cpu number pool here =
+    let within : number < b.shape.vectors = omega (arith, slice_get_within (fresh_vectors b cpu) number pool here, count_vectors b cpu) in
+    let same : vector_of b cpu number ≡ pool = sym (get_or-map-range_with_len (vector_of b cpu) 0 b.shape.vectors number number pool within (omega arith)) ∙ get_or_from_slice_get (fresh_vectors b cpu) number pool pool here in
+    ap (λ (p : PoolShown). p.board) (sym same)
+
+-- what is in, of the first so many pools
+pub inside_first : (count : ℕ) (pools : List PoolShown) (number : ℕ) (pool : PoolShown) → slice_get (map (λ (p : PoolShown). Some p) (take count pools)) number ≡ Some (Some pool) → slice_get pools number ≡ Some pool
+inside_first zero pools number pool is = absurd (none_at number is)
+  where
+    none_at : (n : ℕ) → slice_get [] n ≡ Some (Some pool) → ⊥
+    none_at zero e = cc
+    none_at (suc n) e = cc
+inside_first (suc count) [] number pool is = absurd (none_at number is)
+  where
+    none_at : (n : ℕ) → slice_get [] n ≡ Some (Some pool) → ⊥
+    none_at zero e = cc
+    none_at (suc n) e = cc
+inside_first (suc count) (p ∷ pools) zero pool is = ap (λ (o : Option (Option PoolShown)). unwrap_or o (Some pool)) is
+inside_first (suc count) (p ∷ pools) (suc number) pool is = inside_first count pools number pool is
 
 pub made_whole : (b : Board) (cpu number : ℕ) (pool : PoolShown) → cpu < b.shape.cpus → slice_get (fresh_vectors b cpu) number ≡ Some pool → IsWhole cpu number pool
 made_whole b cpu number pool one here =

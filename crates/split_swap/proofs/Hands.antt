@@ -16,13 +16,10 @@ use Rattle.tag_model.proofs.MovedWords.{raises_is}
 use Rattle.tag_rule.specs.Shown.{Board, CpuShown}
 use Rattle.tag_rule.specs.Steps.{with_hand, hand_after}
 use Rattle.tag_ref.specs.Refs.{moved_by}
-use Rattle.tag_ref.proofs.Halves.{parted_hand, same_itself, two_calls}
-use Rattle.tag_ref.proofs.RefSteps.{one_call, taken, given, made, at_rest, shown, wrote}
+use Rattle.tag_ref.proofs.Halves.{parted_hand, two_calls}
+use Rattle.tag_ref.proofs.RefSteps.{one_call, taken, given, made, at_rest, same_itself, same_shown, shown, wrote}
 
 -- ---- a reference that two cells share
-
-same_shown : (a b : Board) (p q : CpuPart) → a ≡ b → p ≡ q → shown a p ≡ shown b q
-same_shown a b p q boards parts = ap (λ board. shown board p) boards ∙ ap (shown b) parts
 
 -- the call is added while the whole reference is in hand
 pub adds_call : (cpu cleared counted : CpuShown) (tag : Tag) (bytes : ℕ) → cleared ≡ shown cpu.board (made cpu.part cpu.part.words (Some (one_call tag bytes false)))

@@ -2,7 +2,7 @@
 use Rattle.std.proofs.Common.{◌≡◌, ℕ, suc, ◌+◌, ◌<◌, ◌≤◌, Bool, true, false, cond, ◌||◌, List, [], ◌∷◌, ◌++◌, length, map, get_or, Option, Some, None, All, refl, sym, ap, ◌∙◌, subst, arith, lt-ltb, le-leb, eq-eqb, eqb-true, ⊎_elim}
 use Rattle.std.specs.Prelude.{◌==◌, ◌&&◌, ◌^◌, IsSome, if◌then◌else◌, nat_lt, replicate, sum_by, take}
 use Rattle.std.specs.List.{filter, find, list_all, list_any}
-use Rattle.std.proofs.lemmas.Bool.{cases_lt, ne_eqb}
+use Rattle.std.proofs.lemmas.Bool.{and_from, cases_lt, ne_eqb}
 use Rattle.std.proofs.lemmas.List.{get_or-map, get_or-replicate, get_or-take, get_or_append_left, get_or_past, length-map, length-replicate, length-take-le}
 use Rattle.std.proofs.lemmas.List.FromFn.{get_or-map-range_with_len, get_or-range_with_len, length-map-range_with_len}
 use Rattle.std.proofs.lemmas.List.Sums.{get_or-le-sum_by, sum_by-cons}
@@ -58,10 +58,6 @@ section_of section e h = by e.state h
     by : (state : State) → is_loaded_at state e.section section ≡ true → e.section ≡ section
     by Loaded h = eqb-true _ _ h
     by Dead h = let no : ⊥ = cc in absurd no
-
-both : (p q : Bool) → p ≡ true → q ≡ true → (p && q) ≡ true
-both true q p r = r
-both false q p r = p
 
 -- ---- how many ops there are
 
@@ -129,7 +125,7 @@ module _ (trace : Trace) (top : Option ℕ) (ops : List OnOp) (r : RoundOf trace
           let above : 0 < e.id = found_all (λ x. 0 < x.id) entries section e here.holds_now.covered.book.above_zero is in
           ap (λ kernel. cond kernel (nat_lt (e.start + index) b.shape.kernel_tags) (list_any test known)) (ne_eqb e.id 0 (λ none. omega (arith, none, above)))
           ∙ run_found section test (unloaded_by ops entries) e left
-          (both _ _ (eq-eqb e.id e.id refl) (both _ _ (le-leb e.start (e.start + index) (omega arith)) (lt-ltb (e.start + index) (e.start + e.length) (omega (arith, size, low)))))
+          (and_from _ _ (eq-eqb e.id e.id refl) (and_from _ _ (le-leb e.start (e.start + index) (omega arith)) (lt-ltb (e.start + index) (e.start + e.length) (omega (arith, size, low)))))
 
       by : (kernel : Bool) → (section == 0) ≡ kernel → (kernel || runs_inside r.before ops cpu section) ≡ true → may_begin b.shape (tag_from index (if kernel then None else find (is_loaded_as section) entries)) known ≡ true
       by true e runs =

@@ -1,5 +1,5 @@
 -- A reference that two cells share: what is in hand while each takes its half.
-use Rattle.std.proofs.Common.{◌≡◌, ℕ, ◌+◌, ◌-◌, ◌<◌, ◌==◌, true, false, IsTrue, Some, None, refl, ap, sym, ◌∙◌, subst, arith, inr}
+use Rattle.std.proofs.Common.{◌≡◌, ℕ, ◌+◌, ◌-◌, ◌<◌, false, IsTrue, Some, None, refl, ap, sym, ◌∙◌, subst, arith, inr}
 use Rattle.std.proofs.lemmas.Grind.{common_steps}
 use Rattle.tag_model.specs.declared.limits.TheConstants.{SIZE_END}
 use Rattle.tag_model.specs.declared.state.CpuPart.{CpuPart}
@@ -9,16 +9,10 @@ use Rattle.tag_model.specs.declared.state.Held.TheVariants as held
 use Rattle.tag_model.specs.declared.state.Kind.{Kind}
 use Rattle.tag_model.specs.declared.state.Kind.TheVariants.{Bytes, Calls}
 use Rattle.tag_model.specs.declared.state.Tag.{Tag}
-use Rattle.tag_model.specs.Reference.{same_tag, held_fits, hand_fits, held_counts_of, hand_counts_of}
+use Rattle.tag_model.specs.Reference.{held_fits, hand_fits, held_counts_of, hand_counts_of}
 use Rattle.tag_model.specs.StepRules.{WritesPlace}
 use Rattle.tag_rule.specs.Steps.{with_hand, hand_after}
-use Rattle.tag_ref.proofs.RefSteps.{one_call, may_give}
-
-itself : (n : ℕ) → (n == n) ≡ true
-itself n = grind arith
-
-pub same_itself : (tag : Tag) → same_tag tag tag ≡ true
-same_itself tag = rw (itself tag.number, itself tag.module) refl
+use Rattle.tag_ref.proofs.RefSteps.{one_call, may_give, same_itself}
 
 -- a hand with two calls
 abbrev pub two_calls : Tag → ℕ → Hand

@@ -24,7 +24,7 @@ use Rattle.tag_ref.specs.Refs.{moved_by, holding, MeetsMachine}
 itself : (n : ℕ) → (n == n) ≡ true
 itself n = grind arith
 
-same_itself : (tag : Tag) → same_tag tag tag ≡ true
+pub same_itself : (tag : Tag) → same_tag tag tag ≡ true
 same_itself tag = rw (itself tag.number, itself tag.module) refl
 
 -- a hand with one call
@@ -135,7 +135,7 @@ lowered_back c e f tag size bytes free is write =
 abbrev pub shown : Board → CpuPart → CpuShown
 shown board part = record { board = board; part = part }
 
-same_shown : (a b : Board) (p q : CpuPart) → a ≡ b → p ≡ q → shown a p ≡ shown b q
+pub same_shown : (a b : Board) (p q : CpuPart) → a ≡ b → p ≡ q → shown a p ≡ shown b q
 same_shown a b p q boards parts = ap (λ board. shown board p) boards ∙ ap (shown b) parts
 
 -- what write-cell leaves of a CPU

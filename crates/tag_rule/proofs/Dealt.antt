@@ -21,6 +21,7 @@ use Rattle.tag_rule.specs.declared.words.Words.{Words}
 use Rattle.tag_rule.specs.Shown.{PoolShown}
 use Rattle.tag_rule.specs.Tokens.{board_of}
 use Rattle.tag_rule.proofs.Spans.{empty_span, first_span}
+use Rattle.tag_rule.proofs.Starts.{run_long}
 
 abbrev Known : Type 0
 Known = Me (Unit {0}) View
@@ -46,15 +47,12 @@ drop_again m (suc n) (x ∷ xs) = let same : suc (n + m) ≡ suc n + m = omega a
 
 -- ---- runs of cells
 
-length_run : (a n : ℕ) → length (places (range_with_len a n)) ≡ n
-length_run a n = length-map-range_with_len empty_cell a n
-
 -- so many cells from the front of a run
 pub take_run : (a m n : ℕ) (rest : List Part) → n ≤ m → take n (places (range_with_len a m) ++ rest) ≡ places (range_with_len a n)
-take_run a m n rest h = take-append-le n (places (range_with_len a m)) rest (omega (arith, length_run a m)) ∙ take-map-range_with_len empty_cell a m n h
+take_run a m n rest h = take-append-le n (places (range_with_len a m)) rest (omega (arith, run_long a m)) ∙ take-map-range_with_len empty_cell a m n h
 
 pub drop_run : (a m n : ℕ) (rest : List Part) → n ≤ m → drop n (places (range_with_len a m) ++ rest) ≡ places (range_with_len (a + n) (m - n)) ++ rest
-drop_run a m n rest h = drop-append-le n (places (range_with_len a m)) rest (omega (arith, length_run a m)) ∙ ap (λ (ps : List Part). ps ++ rest) (drop_places n a m)
+drop_run a m n rest h = drop-append-le n (places (range_with_len a m)) rest (omega (arith, run_long a m)) ∙ ap (λ (ps : List Part). ps ++ rest) (drop_places n a m)
 
 -- once so many cells of a run are gone, the next ones stand at the front
 pub next_run : (parts : List Part) (first total done size : ℕ) (rest : List Part) → parts ≡ places (range_with_len first total) ++ rest → done + size ≤ total → drop done parts ≡ places (range_with_len (first + done) size) ++ drop size (drop done parts)

@@ -74,6 +74,10 @@ same_parts k v w same = record {
   safe = λ ps qs ok b safe. safe_same k ps qs (λ f. omega (arith, b.before f, b.after f, same f)) safe;
 }
 
+-- nothing changes
+pub same_moves : (k : Shape) (v : List Part) → Moves k v v
+same_moves k v = same_parts k v v (λ f. refl)
+
 pub same_as : (k : Shape) (v w : List Part) → v ≡ w → Moves k v w
 same_as k v w e = same_parts k v w (λ f. ap (λ (ps : List Part). sum_by f ps) e)
 

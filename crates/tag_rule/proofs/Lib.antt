@@ -23,3 +23,4 @@ pub mod Meets
 pub mod GivenRuns
 pub mod Noted
 pub mod AllMeet
+pub mod NewTable

@@ -22,7 +22,7 @@ use Rattle.tag_rule.specs.Rule.{Moves, Tells, view_of}
 use Rattle.tag_rule.specs.Seated.{ListHolds, cell_parts, list_in}
 use Rattle.tag_rule.specs.Shown.{ListShown}
 use Rattle.tag_rule.specs.Tokens.{board_of}
-use Rattle.tag_rule.proofs.Keeps.{same_parts}
+use Rattle.tag_rule.proofs.Keeps.{same_moves, same_parts}
 use Rattle.tag_rule.proofs.Tellings.{list_holds, tells_after}
 
 -- what a seat knows
@@ -35,10 +35,6 @@ tells_all k v ps ok b safe = record { state = ps; checked = ok; stands = record 
 -- what the parts are that become others
 pub tells_moved : (k : Shape) (v w : List Part) → Moves k v w → Tells k v (StandSafe k w)
 tells_moved k v w m = tells_after k v w (StandSafe k w) m.safe (tells_all k w)
-
--- nothing changes
-pub same_moves : (k : Shape) (v : List Part) → Moves k v v
-same_moves k v = same_parts k v v (λ f. refl)
 
 -- ---- a cell and the list
 

@@ -25,7 +25,7 @@ use Rattle.tag_rule.specs.Tokens.{board_of, IsCellPool}
 use Rattle.tag_rule.specs.Fresh.{empty_cell, places}
 use Rattle.tag_rule.specs.Rule.{view_of, Moves, Tells}
 use Rattle.tag_rule.specs.Seated.{cells_in, cell_parts, CellHolds, CellsHold}
-use Rattle.tag_rule.proofs.Keeps.{same_parts}
+use Rattle.tag_rule.proofs.Keeps.{same_moves, same_parts}
 use Rattle.tag_rule.proofs.Runs.{outside, sum_outside, has_outside, has_range, all_outside, count_outside, has_once, all_has}
 
 -- ---- the cells of a seat
@@ -123,9 +123,6 @@ Apart parts = (n : ℕ) → sum_by (is_place_at n) parts ≤ 1
 
 pub stand_apart : (k : Shape) (v : List Part) → Tells k v (Apart v)
 stand_apart k v ps ok b safe n = omega (arith, b.before (is_place_at n), safe.each.places n)
-
-pub same_moves : (k : Shape) (v : List Part) → Moves k v v
-same_moves k v = same_parts k v v (λ f. refl)
 
 some_count : (n : ℕ) (xs : List ℕ) → list_any (λ m. m == n) xs ≡ true → 0 < count_by (λ m. m == n) xs
 some_count n xs any =

@@ -156,7 +156,7 @@ counts trace ops before after m c r cpu section index may low = by (section == 0
 
 -- ---- a round
 
-cpus_last : (ops : List OnOp) (m : Machine) → (cpus_done ops m).last_id ≡ m.last_id
+pub cpus_last : (ops : List OnOp) (m : Machine) → (cpus_done ops m).last_id ≡ m.last_id
 cpus_last ops m = fold_keeps (λ (x : Machine). x.last_id ≡ m.last_id) (cpu_done ops) (λ x cpu h. h) (range_with_len 0 (length m.seats)) m refl
 
 module_covered : (trace : Trace) (m : Machine) (what : TraceOp) → Covered trace m → Covered trace (module_done m what)

@@ -1,5 +1,6 @@
 -- The laws, from what is carried from item to item.
 use Rattle.std.proofs.Common.{◌≡◌, ℕ, ◌+◌, ◌<◌, ◌≤◌, Bool, true, false, List, [], ◌∷◌, ◌++◌, length, map, Option, Some, None, Ok, refl, sym, ◌∙◌, subst, arith, lt-ltb}
+use Rattle.std.proofs.lemmas.Bool.{and_from}
 use Rattle.std.specs.Prelude.{◌&&◌}
 use Rattle.std.specs.List.{enumerate_from, find, flat_map, list_all, range_with_len}
 use Rattle.std.proofs.lemmas.List.Folds.{list_all-append}
@@ -44,7 +45,7 @@ use Rattle.trace_cover.specs.Cover.{AreCounted, AreNamed, HasCover, held_may, is
 use Rattle.trace_cover.proofs.Areas.{or_left}
 use Rattle.trace_cover.proofs.Passes.{AllMay, content_may}
 use Rattle.trace_cover.proofs.RoundMay.{cpus_area}
-use Rattle.trace_cover.proofs.Holds.{Covered, before_cleaning}
+use Rattle.trace_cover.proofs.Holds.{Covered, before_cleaning, cpus_last}
 use Rattle.trace_cover.proofs.Items.{AtRound, after_front, at_round}
 use Rattle.trace_cover.proofs.StayIn.{stays_loaded}
 use Rattle.trace_cover.proofs.Few.{few_cells}
@@ -52,15 +53,11 @@ use Rattle.trace_cover.proofs.Quiet.{are_counted}
 
 -- ---- references by cell
 
-both : (p q : Bool) → p ≡ true → q ≡ true → (p && q) ≡ true
-both true q p r = r
-both false q p r = p
-
 module _ (may : Tag → Bool) where
   cells_may : (live : Live) → AllMay may live → list_all (λ (entry : Slot × Held). held_may may entry.1) (flat_map (λ (entry : ℕ × Content). content_cell entry.1) live) ≡ true
   cells_may [] a = refl
   cells_may (e ∷ live) a =
-      list_all-append (λ (entry : Slot × Held). held_may may entry.1) (content_cell e.1) _ ∙ both _ _ (one e.1 a.0) (cells_may live a.1)
+      list_all-append (λ (entry : Slot × Held). held_may may entry.1) (content_cell e.1) _ ∙ and_from _ _ (one e.1 a.0) (cells_may live a.1)
     where
       and_true : (b : Bool) → b ≡ true → (b && true) ≡ true
       and_true true e = refl
@@ -74,16 +71,16 @@ module _ (may : Tag → Bool) where
 
   all_flat : {X : Type 0} (f : X → List (Slot × Held)) (xs : List X) → ((x : X) → list_all (λ (entry : Slot × Held). held_may may entry.1) (f x) ≡ true) → list_all (λ (entry : Slot × Held). held_may may entry.1) (flat_map f xs) ≡ true
   all_flat f [] each = refl
-  all_flat f (x ∷ xs) each = list_all-append (λ (entry : Slot × Held). held_may may entry.1) (f x) _ ∙ both _ _ (each x) (all_flat f xs each)
+  all_flat f (x ∷ xs) each = list_all-append (λ (entry : Slot × Held). held_may may entry.1) (f x) _ ∙ and_from _ _ (each x) (all_flat f xs each)
 
   slab_may : may slab_tag ≡ true → (cpu frame : ℕ) (slab : Option Slab) → list_all (λ (entry : Slot × Held). held_may may entry.1) (slab_cell cpu frame slab) ≡ true
   slab_may is cpu frame None = refl
-  slab_may is cpu frame (Some slab) = both _ _ is refl
+  slab_may is cpu frame (Some slab) = and_from _ _ is refl
 
   machine_may : may slab_tag ≡ true → (m : Machine) → AllMay may m.live → list_all (λ (entry : Slot × Held). held_may may entry.1) (live_cells m) ≡ true
   machine_may is m a =
       list_all-append (λ (entry : Slot × Held). held_may may entry.1) (flat_map (λ (entry : ℕ × Content). content_cell entry.1) m.live) _
-      ∙ both _ _ (cells_may m.live a)
+      ∙ and_from _ _ (cells_may m.live a)
       (all_flat (λ (seat : Seat). slab_cells seat.node) m.seats (λ seat. all_flat (λ (entry : ℕ × Option Slab). slab_cell seat.node.node.cpu entry.0 entry.1) (enumerate_from 0 seat.node.slabs) (λ entry. slab_may is seat.node.node.cpu entry.0 entry.1)))
 
 pub has_cover : (trace : Trace) (m : Machine) → IsFormedTrace trace → Covered trace m → HasCover trace m
@@ -106,9 +103,6 @@ pub front_named : (trace : Trace) (top : Option ℕ) → IsFormedTrace trace →
 front_named trace top formed passes front back stands = (after_front trace formed top passes front back stands).1.named
 
 -- ---- ids
-
-cpus_last : (ops : List OnOp) (m : Machine) → (cpus_done ops m).last_id ≡ m.last_id
-cpus_last ops m = fold_keeps (λ (x : Machine). x.last_id ≡ m.last_id) (cpu_done ops) (λ x cpu h. h) (range_with_len 0 (length m.seats)) m refl
 
 module_last : (m : Machine) (what : TraceOp) → (module_done m what).last_id ≡ m.last_id
 module_last m (op.Page key order) = refl

@@ -7,8 +7,9 @@ use Rattle.page_ext.specs.Shown.{NodeShown}
 use Rattle.slab_ext.specs.Vectors.{VectorsShown}
 use Rattle.slab_cache.specs.Shown.{SlabNodeShown}
 use Rattle.round_worker.specs.Working.{shown}
-use Rattle.plant.proofs.PoolLemmas.{all_whole, enough, has_page, of_board}
-use Rattle.plant.proofs.WorkerLemmas.{inside_first, is_fresh, made, on_ok}
+use Rattle.slab_ext.proofs.Made.{inside_first, made_whole, of_board}
+use Rattle.plant.proofs.PoolLemmas.{enough, has_page}
+use Rattle.plant.proofs.WorkerLemmas.{is_fresh, made, on_ok}
 use Rattle.plant.proofs.worker.make_worker.Goals as goal
 
 pub new-requires-clause-cells : goal.new-requires-clause-cells
@@ -23,7 +24,7 @@ new-requires-2-clause-enough c =
 
 pub new-requires-2-clause-whole : goal.new-requires-2-clause-whole
 new-requires-2-clause-whole c number pool below is =
-    all_whole c.args.pages.board c.args.cpu number pool c.requires.one (omega (arith, below, c.requires.vectors))
+    made_whole c.args.pages.board c.args.cpu number pool c.requires.one
     (subst (λ (ps : List PoolShown). slice_get ps number ≡ Some pool) c.requires.pools is)
 
 pub new-requires-3-clause-table : goal.new-requires-3-clause-table

@@ -1,6 +1,7 @@
 use Rattle.std.proofs.Common.{ap, ◌∙◌}
 use Rattle.tag_rule.specs.Shown.{CellShown}
-use Rattle.tag_rule.proofs.Meets.{meet_covers, same_moves, tells_all}
+use Rattle.tag_rule.proofs.Keeps.{same_moves}
+use Rattle.tag_rule.proofs.Meets.{meet_covers, tells_all}
 use Rattle.tag_rule.proofs.meeting.meet.Goals as goal
 
 pub exchange-requires-clause-moves : goal.exchange-requires-clause-moves

@@ -1,4 +1,5 @@
-use Rattle.tag_rule.proofs.Meets.{same_moves, tells_all}
+use Rattle.tag_rule.proofs.Keeps.{same_moves}
+use Rattle.tag_rule.proofs.Meets.{tells_all}
 use Rattle.tag_rule.proofs.meeting.stand.Goals as goal
 
 pub turn-requires-clause-moves : goal.turn-requires-clause-moves

@@ -5,7 +5,8 @@ use Rattle.tag_model.specs.WordState.{in_range}
 use Rattle.tag_rule.specs.Seated.{cells_in}
 use Rattle.tag_rule.specs.Shown.{CellShown, has}
 use Rattle.tag_rule.specs.Tokens.{cell_shown}
-use Rattle.tag_rule.proofs.Pools.{same_moves, stand_apart, united, united_holds, united_has, united_apart, pool_after}
+use Rattle.tag_rule.proofs.Keeps.{same_moves}
+use Rattle.tag_rule.proofs.Pools.{stand_apart, united, united_holds, united_has, united_apart, pool_after}
 use Rattle.tag_rule.proofs.parting.unite.Goals as goal
 
 pub turn-requires-clause-moves : goal.turn-requires-clause-moves

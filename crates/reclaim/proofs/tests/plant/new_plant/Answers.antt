@@ -9,41 +9,9 @@ use Rattle.tag_rule.specs.declared.making.Seats.{Seats}
 use Rattle.tag_rule.specs.Fresh.{fresh_cpu}
 use Rattle.tag_rule.specs.Made.{AreFresh}
 use Rattle.tag_rule.specs.Shown.{Board, CellShown, CpuShown, ListShown, PassShown, PoolShown, has}
-use Rattle.tag_rule.proofs.Runs.{has_range}
+use Rattle.tag_rule.proofs.NewTable.{cpu_at, cpus_long, first_pool, list_there, pages_long, pool_has}
 use Rattle.reclaim.specs.State.{LockedShown}
 use Rattle.reclaim.proofs.tests.plant.new_plant.Goals as goal
-
-some_cpu : (k : Shape) (s : Seats) (f : AreFresh k s) → 0 < k.cpus → 0 < f.board.shape.cpus
-some_cpu k s f some = subst (λ (shape : Shape). 0 < shape.cpus) (sym f.shape) some
-
--- the first CPU's pool of page cells
-first_pool : (k : Shape) (s : Seats) (f : AreFresh k s) (p : PoolShown) → 0 < k.cpus → p ≡ slice_index_or s.pages.items 0 p
-    → p ≡ record { board = f.board; cells = range_with_len (page_index f.board.shape 0 0) f.board.shape.frames }
-first_pool k s f p some is =
-    is ∙ ap (λ (pools : List PoolShown). slice_index_or pools 0 p) f.pages
-    ∙ get_or-map-range_with_len (λ n. record { board = f.board; cells = range_with_len (page_index f.board.shape n 0) f.board.shape.frames }) 0 f.board.shape.cpus 0 0 p (some_cpu k s f some) refl
-
-longer : (first count all n : ℕ) → count ≤ all → IsTrue (in_range first count n) → IsTrue (in_range first all n)
-longer first count all n le h = grind (arith, common_steps)
-
-pool_has : (k : Shape) (s : Seats) (f : AreFresh k s) (p : PoolShown) (first count n : ℕ) → 0 < k.cpus → p ≡ slice_index_or s.pages.items 0 p → first ≡ page_index k 0 0 → count ≤ k.frames
-    → IsTrue (in_range first count n) → IsTrue (has p n)
-pool_has k s f p first count n some is at le h =
-    let there : IsTrue (in_range (page_index k 0 0) k.frames n) = longer (page_index k 0 0) count k.frames n le (subst (λ x. IsTrue (in_range x count n)) at h) in
-    let shown : IsTrue (in_range (page_index f.board.shape 0 0) f.board.shape.frames n) = subst (λ (shape : Shape). IsTrue (in_range (page_index shape 0 0) shape.frames n)) (sym f.shape) there in
-    ap (λ (pool : PoolShown). has pool n) (first_pool k s f p some is) ∙ has_range n (page_index f.board.shape 0 0) f.board.shape.frames ∙ shown
-
-cpu_at : (k : Shape) (s : Seats) (f : AreFresh k s) (i : ℕ) (d : CpuShown) → i < length s.cpus.items → slice_index_or s.cpus.items i d ≡ record { board = f.board; part = fresh_cpu f.board.shape i }
-cpu_at k s f i d low =
-    let all : length s.cpus.items ≡ f.board.shape.cpus = ap length f.cpus ∙ length-map-range_with_len (λ n. record { board = f.board; part = fresh_cpu f.board.shape n }) 0 f.board.shape.cpus in
-    ap (λ (cpus : List CpuShown). slice_index_or cpus i d) f.cpus ∙ get_or-map-range_with_len (λ n. record { board = f.board; part = fresh_cpu f.board.shape n }) 0 f.board.shape.cpus i i d (omega (arith, all, low)) (omega arith)
-
-cpus_long : (k : Shape) (s : Seats) (f : AreFresh k s) → length s.cpus.items ≡ k.cpus
-cpus_long k s f =
-    ap length f.cpus ∙ length-map-range_with_len (λ n. record { board = f.board; part = fresh_cpu f.board.shape n }) 0 f.board.shape.cpus ∙ ap (λ (shape : Shape). shape.cpus) f.shape
-
-list_there : (k : Shape) (s : Seats) (f : AreFresh k s) → s.list.board ≡ f.board
-list_there k s f = ap (λ (l : ListShown). l.board) f.list
 
 cpus_there : (k : Shape) (s : Seats) (f : AreFresh k s) → All (λ (c : CpuShown). c.board ≡ s.list.board) s.cpus.items
 cpus_there k s f i d low = ap (λ (c : CpuShown). c.board) (cpu_at k s f i d low) ∙ sym (list_there k s f)
@@ -56,11 +24,6 @@ numbers b (n ∷ ns) = ap (λ xs. n ∷ xs) (numbers b ns)
 cpus_all : (k : Shape) (s : Seats) (f : AreFresh k s) → map (λ (c : CpuShown). c.part.number) s.cpus.items ≡ range_with_len 0 s.list.board.shape.cpus
 cpus_all k s f =
     ap (map (λ (c : CpuShown). c.part.number)) f.cpus ∙ (numbers f.board (range_with_len 0 f.board.shape.cpus) ∙ ap (λ (b : Board). range_with_len 0 b.shape.cpus) (sym (list_there k s f)))
-
-pages_long : (k : Shape) (s : Seats) (f : AreFresh k s) → length s.pages.items ≡ k.cpus
-pages_long k s f =
-    ap length f.pages ∙ length-map-range_with_len (λ n. record { board = f.board; cells = range_with_len (page_index f.board.shape n 0) f.board.shape.frames }) 0 f.board.shape.cpus
-    ∙ ap (λ (shape : Shape). shape.cpus) f.shape
 
 pub part-run-requires-clause-there : goal.part-run-requires-clause-there
 part-run-requires-clause-there c n h =

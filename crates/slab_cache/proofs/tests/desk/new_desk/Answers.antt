@@ -1,16 +1,13 @@
-use Rattle.std.proofs.Common.{ℕ, zero, suc, ◌≡◌, ◌+◌, ◌<◌, IsTrue, List, [], ◌∷◌, Option, Some, length, map, take, slice_get, unwrap_or, sym, ap, ◌∙◌, subst, arith}
+use Rattle.std.proofs.Common.{ℕ, ◌≡◌, ◌+◌, ◌<◌, IsTrue, List, Some, length, slice_get, sym, ap, ◌∙◌, subst, arith}
 use Rattle.std.specs.List.{range_with_len}
 use Rattle.std.proofs.lemmas.Bool.{and_from, le-leb, lt-ltb}
-use Rattle.std.proofs.lemmas.List.FromFn.{length-map-range_with_len, get_or-map-range_with_len}
-use Rattle.std.proofs.lemmas.Option.{get_or_from_slice_get, slice_get_within}
 use Rattle.tag_model.specs.declared.shape.Shape.{Shape}
-use Rattle.tag_model.specs.Index.{object_index, page_index}
-use Rattle.tag_rule.specs.Made.{fresh_vectors}
+use Rattle.tag_model.specs.Index.{page_index}
 use Rattle.tag_rule.specs.Shown.{Board, PoolShown, has}
 use Rattle.tag_rule.proofs.Runs.{has_range}
 use Rattle.page_ext.specs.Shown.{NodeShown}
 use Rattle.slab_ext.specs.Vectors.{IsWhole, VectorsShown}
-use Rattle.slab_ext.proofs.Made.{made_whole}
+use Rattle.slab_ext.proofs.Made.{count_vectors, inside_first, made_whole, of_board}
 use Rattle.slab_cache.proofs.tests.desk.new_desk.Goals as goal
 
 abbrev pages_of : Board → ℕ → PoolShown
@@ -21,33 +18,6 @@ has_frame b cpu frame below =
     let first = page_index b.shape cpu 0 in
     let cell = page_index b.shape cpu frame in
     has_range cell first b.shape.frames ∙ and_from _ _ (le-leb first cell (omega arith)) (lt-ltb cell (first + b.shape.frames) (omega (arith, below)))
-
-abbrev vector_of : Board → ℕ → ℕ → PoolShown
-vector_of b cpu number = record { board = b; cells = range_with_len (object_index b.shape cpu number 0) 64 }
-
-count_vectors : (b : Board) (cpu : ℕ) → length (fresh_vectors b cpu) ≡ b.shape.vectors
-count_vectors b cpu = length-map-range_with_len (vector_of b cpu) 0 b.shape.vectors
-
-of_board : (b : Board) (cpu number : ℕ) (pool : PoolShown) → slice_get (fresh_vectors b cpu) number ≡ Some pool → pool.board ≡ b
-of_board b cpu number pool here =
-    let within : number < b.shape.vectors = omega (arith, slice_get_within (fresh_vectors b cpu) number pool here, count_vectors b cpu) in
-    let same : vector_of b cpu number ≡ pool = sym (get_or-map-range_with_len (vector_of b cpu) 0 b.shape.vectors number number pool within (omega arith)) ∙ get_or_from_slice_get (fresh_vectors b cpu) number pool pool here in
-    ap (λ (p : PoolShown). p.board) (sym same)
-
--- what is in, of the first so many
-inside_first : (count : ℕ) (pools : List PoolShown) (number : ℕ) (pool : PoolShown) → slice_get (map (λ (p : PoolShown). Some p) (take count pools)) number ≡ Some (Some pool) → slice_get pools number ≡ Some pool
-inside_first zero pools number pool is = absurd (none_at number is)
-  where
-    none_at : (n : ℕ) → slice_get [] n ≡ Some (Some pool) → ⊥
-    none_at zero e = cc
-    none_at (suc n) e = cc
-inside_first (suc count) [] number pool is = absurd (none_at number is)
-  where
-    none_at : (n : ℕ) → slice_get [] n ≡ Some (Some pool) → ⊥
-    none_at zero e = cc
-    none_at (suc n) e = cc
-inside_first (suc count) (p ∷ pools) zero pool is = ap (λ (o : Option (Option PoolShown)). unwrap_or o (Some pool)) is
-inside_first (suc count) (p ∷ pools) (suc number) pool is = inside_first count pools number pool is
 
 pub new-requires-clause-cells : goal.new-requires-clause-cells
 new-requires-clause-cells c frame below =
