@@ -1,8 +1,8 @@
 -- The live list of a core is that of its places: what a place holds, and what is on the list once it holds something else.
 use Rattle.std.proofs.Common.{◌≡◌, ◌≢◌, ℕ, zero, suc, ◌+◌, ◌<◌, ◌≤◌, ◌==◌, ◌&&◌, not, Bool, true, false, cond, List, [], ◌∷◌, ◌++◌, length, get_or, set, refl, sym, ap, ◌∙◌, subst, arith, zero-add, add-zero, Option, Some, None, eq-eqb, ne_eqb, unwrap_or}
 use Rattle.std.proofs.lemmas.Bool.{and_from, and_parts}
-use Rattle.std.specs.Cmp.{ranks}
-use Rattle.std.specs.Ordering.{nat_cmp, MatchOrdering, is_eq, is_lt}
+use Rattle.std.proofs.lemmas.Cmp.{ranked}
+use Rattle.std.specs.Ordering.{nat_cmp, is_eq, is_lt}
 use Rattle.std.specs.declared.cmp.Ordering.{Ordering}
 use Rattle.std.specs.declared.cmp.Ordering.TheVariants.{Less, Equal, Greater}
 use Rattle.std.specs.FinMap.Entries.{put, find, is_sorted, below_all, by_order}
@@ -20,28 +20,25 @@ use Rattle.core_steps.specs.CoreState.{CoreState, cpu_parts, list_parts, place_p
 
 -- ---- numbers in their order
 
-ranked : (x y : ℕ) (r : Ordering) → nat_cmp x y ≡ r → MatchOrdering r (x < y) (x ≡ y) (y < x)
-ranked x y r e = subst (λ o. MatchOrdering o (x < y) (x ≡ y) (y < x)) e (ranks x y)
-
 cmp_less : (x y : ℕ) → x < y → nat_cmp x y ≡ Less
 cmp_less x y h = elim (nat_cmp x y) as (λ o. nat_cmp x y ≡ o → o ≡ Less) [
   | Less ↦ λ e. refl
-  | Equal ↦ λ e. absurd (omega (arith, h, ranked x y Equal e))
-  | Greater ↦ λ e. absurd (omega (arith, h, ranked x y Greater e))
+  | Equal ↦ λ e. absurd (omega (arith, h, ranked x y Equal (sym e)))
+  | Greater ↦ λ e. absurd (omega (arith, h, ranked x y Greater (sym e)))
 ] refl
 
 cmp_greater : (x y : ℕ) → y < x → nat_cmp x y ≡ Greater
 cmp_greater x y h = elim (nat_cmp x y) as (λ o. nat_cmp x y ≡ o → o ≡ Greater) [
-  | Less ↦ λ e. absurd (omega (arith, h, ranked x y Less e))
-  | Equal ↦ λ e. absurd (omega (arith, h, ranked x y Equal e))
+  | Less ↦ λ e. absurd (omega (arith, h, ranked x y Less (sym e)))
+  | Equal ↦ λ e. absurd (omega (arith, h, ranked x y Equal (sym e)))
   | Greater ↦ λ e. refl
 ] refl
 
 cmp_equal : (x : ℕ) → nat_cmp x x ≡ Equal
 cmp_equal x = elim (nat_cmp x x) as (λ o. nat_cmp x x ≡ o → o ≡ Equal) [
-  | Less ↦ λ e. absurd (omega (arith, ranked x x Less e))
+  | Less ↦ λ e. absurd (omega (arith, ranked x x Less (sym e)))
   | Equal ↦ λ e. refl
-  | Greater ↦ λ e. absurd (omega (arith, ranked x x Greater e))
+  | Greater ↦ λ e. absurd (omega (arith, ranked x x Greater (sym e)))
 ] refl
 
 lt_less : (o : Ordering) → is_lt o ≡ true → o ≡ Less
@@ -62,7 +59,7 @@ without_front : (n : ℕ) (es : Live) → below_all nat_cmp n es ≡ true → wi
 without_front n [] below = refl
 without_front n (e ∷ es) below =
     let f = front n e es below in
-    let other : (e.0 == n) ≡ false = ne_eqb e.0 n (λ same. omega (arith, same, ranked n e.0 Less f.0)) in
+    let other : (e.0 == n) ≡ false = ne_eqb e.0 n (λ same. omega (arith, same, ranked n e.0 Less (sym f.0))) in
     ap (λ b. cond (not b) (e ∷ without n es) (without n es)) other ∙ ap (λ xs. e ∷ xs) (without_front n es f.1)
 
 find_front : (n : ℕ) (es : Live) → below_all nat_cmp n es ≡ true → find nat_cmp n es ≡ None

@@ -3,10 +3,10 @@ use Rattle.std.proofs.Common.{◌≡◌, ◌+◌, ◌-◌, ◌<◌, ◌++◌, �
 use Rattle.std.proofs.lemmas.List.FromFn.{map-range_with_len_more}
 use Rattle.std.specs.Prelude.{slice_index_or}
 use Rattle.std.specs.List.{range_with_len}
-use Rattle.tag_rule.specs.Made.{fresh_vectors}
+use Rattle.tag_rule.specs.Made.{fresh_vectors, pages_of}
 use Rattle.tag_rule.specs.Shown.{Board, PoolShown}
 use Rattle.round_worker.specs.Shown.{WorkerShown}
-use Rattle.plant.specs.Fresh.{fresh_worker, fresh_workers, pages_from, pages_of, vectors_from}
+use Rattle.plant.specs.Fresh.{fresh_worker, fresh_workers, pages_from, vectors_from}
 use Rattle.plant.proofs.Dealt.{FirstOut, HeadOut, first_out, from_next, head_out, head_there}
 
 -- ---- pools

@@ -6,10 +6,9 @@ use Rattle.std.proofs.lemmas.Bool.{eqb-false}
 use Rattle.std.proofs.lemmas.List.FromFn.{length-map-range_with_len}
 use Rattle.std.specs.List.{list_any, range_with_len}
 use Rattle.tag_model.specs.Index.{object_index, page_index}
-use Rattle.tag_rule.specs.Made.{fresh_vectors}
+use Rattle.tag_rule.specs.Made.{fresh_vectors, pages_of}
 use Rattle.tag_rule.specs.Shown.{Board, PoolShown, has}
 use Rattle.slab_ext.proofs.Made.{count_vectors}
-use Rattle.plant.specs.Fresh.{pages_of}
 
 has_at : (first size n : ℕ) → first ≤ n → n < first + size → list_any (λ (cell : ℕ). cell == n) (range_with_len first size) ≡ true
 has_at first zero n low high = absurd (omega (arith, low, high))

@@ -3,8 +3,7 @@ use Rattle.std.specs.Prelude.{ℕ, ◌≡◌, ◌+◌, ◌-◌, ◌≤◌, List,
 use Rattle.std.specs.List.{range_with_len}
 use Rattle.tag_model.specs.declared.shape.Shape.{Shape}
 use Rattle.tag_model.specs.declared.state.Sweep.TheVariants as sweep
-use Rattle.tag_model.specs.Index.{page_index}
-use Rattle.tag_rule.specs.Made.{fresh_seats, fresh_vectors}
+use Rattle.tag_rule.specs.Made.{fresh_seats, fresh_vectors, pages_of}
 use Rattle.tag_rule.specs.Shown.{Board, PoolShown}
 use Rattle.tag_section.specs.Section.{Section}
 use Rattle.reclaim.specs.State.{LockedShown}
@@ -15,11 +14,7 @@ use Rattle.plant.specs.declared.starting.Started.{Started}
 
 -- ---- tokens of each CPU
 
--- the page cells of a CPU
-abbrev pub pages_of : Board → ℕ → PoolShown
-pages_of b cpu = record { board = b; cells = range_with_len (page_index b.shape cpu 0) b.shape.frames }
-
--- those of so many CPUs from one on, and the cells of their vectors
+-- the page cells of so many CPUs from one on, and the cells of their vectors
 abbrev pub pages_from : Board → ℕ → ℕ → List PoolShown
 pages_from b cpu count = map (pages_of b) (range_with_len cpu count)
 

@@ -1,8 +1,8 @@
 //! The worker of a CPU, of the CPU's pools.
 
 ghost use Rattle.std.specs.Prelude.{◌≡◌, ◌<◌, ◌≤◌, IfOk};
-ghost use Rattle.tag_rule.specs.Made.{fresh_vectors};
-ghost use Rattle.plant.specs.Fresh.{fresh_worker, pages_of};
+ghost use Rattle.tag_rule.specs.Made.{fresh_vectors, pages_of};
+ghost use Rattle.plant.specs.Fresh.{fresh_worker};
 
 use page_ext::Node;
 use round_worker::Worker;

@@ -105,9 +105,9 @@ pub record CoveredEntry (k : Shape) (area : Area) (run : Run) (list : ListPart) 
   pub least : runs_between run.id list cpu ≤ entry.users
   pub most : entry.users ≤ k.cpus + count_by (is_on run.id) list.away
 
-live_means : (s : State) → not (is_dead s) ≡ true → s ≡ Loaded
-live_means Loaded e = refl
-live_means Dead e = absurd (false≢true e)
+pub loaded_state : (s : State) → not (is_dead s) ≡ true → s ≡ Loaded
+loaded_state Loaded e = refl
+loaded_state Dead e = absurd (false≢true e)
 
 pub covered_entry : (k : Shape) (area : Area) (run : Run) (list : ListPart) (cpu : CpuPart) → IsBook area → list_any (covers_run k run list cpu) (map record_of area.entries) ≡ true → CoveredEntry k area run list cpu
 covered_entry k area run list cpu book covered =
@@ -120,7 +120,7 @@ covered_entry k area run list cpu book covered =
     record {
       entry = t.entry;
       is = t.is;
-      loaded = live_means t.entry.state dead.1;
+      loaded = loaded_state t.entry.state dead.1;
       least = leb-true (runs_between run.id list cpu) t.entry.users some.1;
       most = leb-true t.entry.users (k.cpus + count_by (is_on run.id) list.away) all.1;
     }

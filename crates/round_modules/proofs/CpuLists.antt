@@ -27,10 +27,6 @@ runs_of_cons e es = go (is_dead e.state)
     go true = refl
     go false = refl
 
-pub loaded_state : (s : State) → not (is_dead s) ≡ true → s ≡ Loaded
-loaded_state Loaded e = refl
-loaded_state Dead e = absurd (false≢true e)
-
 pub dead_state : (s : State) → not (is_dead s) ≡ false → s ≡ Dead
 dead_state Loaded e = absurd (false≢true (sym e))
 dead_state Dead e = refl

@@ -8,7 +8,8 @@ use Rattle.std.proofs.lemmas.List.Elements.{All-weaker, Contains-append_left}
 use Rattle.tag_model.specs.declared.state.Note.{Note}
 use Rattle.tag_model.specs.declared.state.Record.{Record}
 use Rattle.tag_model.specs.declared.state.Run.{Run}
-use Rattle.tag_rule.specs.Meeting.{first_notes, note_of, with_notes}
+use Rattle.tag_model.specs.Laws.{note_of}
+use Rattle.tag_rule.specs.Meeting.{first_notes, with_notes}
 use Rattle.tag_rule.specs.Runs.{with_runs}
 use Rattle.tag_rule.specs.Shown.{CpuShown}
 use Rattle.module_area.specs.declared.entry.Entry.{Entry}

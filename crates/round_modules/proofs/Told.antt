@@ -20,7 +20,7 @@ use Rattle.core_list.specs.ListState.{record_of, run_of}
 use Rattle.reclaim.specs.State.{LockedShown, part_of}
 use Rattle.round_modules.specs.Inside.{AreInside, AreNoted, IsNoteOf}
 use Rattle.round_modules.specs.Known.{AreAsKnown, AreLoadedIn, IsLoadedIn, runs_of, staying}
-use Rattle.round_modules.proofs.CpuLists.{loaded_state}
+use Rattle.reclaim.proofs.Enter.{loaded_state}
 use Rattle.round_modules.proofs.Members.{Rises, all_members, any_member, entry_is, filter_has, list_all_at, list_any_from, map_from, map_has}
 
 -- the first CPU is inside all that stays

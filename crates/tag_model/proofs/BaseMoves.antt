@@ -15,7 +15,7 @@ use Rattle.tag_model.specs.declared.state.Part.TheVariants.{Cpu, Modules}
 use Rattle.tag_model.specs.declared.state.Record.{Record}
 use Rattle.tag_model.specs.declared.state.Run.{Run}
 use Rattle.tag_model.specs.declared.state.Tag.{Tag}
-use Rattle.tag_model.specs.Laws.{Safe, CoverLaw, IsCovered, is_loaded_as, same_run, same_note, contradicts, runs_of_cpu}
+use Rattle.tag_model.specs.Laws.{Safe, CoverLaw, IsCovered, is_loaded_as, same_run, same_note, note_of, contradicts, runs_of_cpu}
 use Rattle.tag_model.specs.StepRules.{GivesRun, TakesRun, NotesRecord, Becomes}
 use Rattle.tag_model.specs.WordState.{one_if, Every, word_of, word_from, counted, counted_of, in_range, records_with, runs_with, notes_with, users_of, next_id, part_fits, hand_may_open}
 use Rattle.tag_model.proofs.Alike.{of_records}
@@ -191,9 +191,6 @@ safe-takes_run k old new from to ps qs row steps safe =
     split test = ap (λ xs. count_by test xs) row.has ∙ sum_at (λ (r : Run). cond {A = ℕ} (test r) 1 0) row.front row.run row.back
 
 -- ---- a CPU notes a record
-
-abbrev pub note_of : Record → Note
-note_of r = record { id = r.id; section = r.section; start = r.start; length = r.length; seen_dead = r.dead }
 
 -- a note that is the one of a record doesn't contradict it
 pub note_tells : (n : Note) (r : Record) → same_note n (note_of r) ≡ true → (n.id ≡ r.id) × (contradicts n r ≡ false)

@@ -43,6 +43,10 @@ is_loaded_as run r = (r.id == run.id) && (r.section == run.section) && (r.start 
 abbrev pub same_run : Run → Run → Bool
 same_run a b = (a.id == b.id) && (a.section == b.section) && (a.start == b.start) && (a.length == b.length)
 
+-- what a CPU notes of a record
+abbrev pub note_of : Record → Note
+note_of r = record { id = r.id; section = r.section; start = r.start; length = r.length; seen_dead = r.dead }
+
 abbrev pub same_note : Note → Note → Bool
 same_note a b = (a.id == b.id) && (a.section == b.section) && (a.start == b.start) && (a.length == b.length) && not (not (a.seen_dead) && b.seen_dead) && not (a.seen_dead && not b.seen_dead)
 

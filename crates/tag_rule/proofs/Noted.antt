@@ -12,7 +12,7 @@ use Rattle.tag_model.specs.StepRules.{Becomes}
 use Rattle.tag_model.proofs.BaseMoves.{safe-notes_record}
 use Rattle.tag_model.proofs.Places.{safe_same}
 use Rattle.tag_rule.specs.declared.view.View.{View}
-use Rattle.tag_rule.specs.Meeting.{note_of}
+use Rattle.tag_model.specs.Laws.{note_of}
 use Rattle.tag_rule.specs.Rule.{Moves, view_of}
 use Rattle.tag_rule.specs.Seated.{cpu_in, list_in}
 

@@ -18,9 +18,12 @@ seats_to b count = map (λ n. record { board = b; part = fresh_cpu b.shape n }) 
 abbrev pub fresh_seats : Board → List CpuShown
 fresh_seats b = seats_to b b.shape.cpus
 
--- the page cells of each CPU
+-- the page cells of a CPU
+abbrev pub pages_of : Board → ℕ → PoolShown
+pages_of b n = record { board = b; cells = range_with_len (page_index b.shape n 0) b.shape.frames }
+
 abbrev pub fresh_pages : Board → List PoolShown
-fresh_pages b = map (λ n. record { board = b; cells = range_with_len (page_index b.shape n 0) b.shape.frames }) (range_with_len 0 b.shape.cpus)
+fresh_pages b = map (pages_of b) (range_with_len 0 b.shape.cpus)
 
 -- the cells of each vector of a CPU
 abbrev pub fresh_vectors : Board → ℕ → List PoolShown

@@ -9,7 +9,7 @@ use Rattle.tag_model.specs.declared.state.Part.{Part}
 use Rattle.tag_model.specs.declared.state.Part.TheVariants.{Cpu}
 use Rattle.tag_model.specs.declared.state.Record.{Record}
 use Rattle.tag_model.specs.declared.state.Run.{Run}
-use Rattle.tag_model.specs.Laws.{Safe, ids_of, is_loaded_as, rises_from}
+use Rattle.tag_model.specs.Laws.{Safe, ids_of, is_loaded_as, note_of, rises_from}
 use Rattle.tag_model.specs.Shape.{IsChecked}
 use Rattle.tag_model.specs.StepRules.{Stands}
 use Rattle.tag_model.specs.Telling.{is_as_noted}
@@ -52,9 +52,6 @@ pub record AreMet (k : Shape) (list : ListPart) (next : ℕ) (cpus : List CpuSho
   pub each : All (λ (c : CpuShown). IsMetCpu list next c.part) cpus
 
 -- ---- the notes that the first CPU takes
-
-abbrev pub note_of : Record → Note
-note_of r = record { id = r.id; section = r.section; start = r.start; length = r.length; seen_dead = r.dead }
 
 abbrev pub with_notes : List Record → CpuShown → CpuShown
 with_notes records cpu = record cpu { part = record cpu.part { notes = map note_of records ++ cpu.part.notes } }

@@ -2,7 +2,7 @@ use Rattle.std.proofs.Common.{◌≤◌, ◌<◌, Global, List, Vec, ap, arith, 
 use Rattle.tag_model.specs.declared.shape.Shape.{Shape}
 use Rattle.tag_rule.specs.Made.{fresh_vectors}
 use Rattle.tag_rule.specs.Shown.{Board, PoolShown}
-use Rattle.plant.specs.Fresh.{pages_of}
+use Rattle.tag_rule.specs.Made.{pages_of}
 use Rattle.plant.proofs.Dealing.{page_out, some_pages, vectors_out, workers_more}
 use Rattle.plant.proofs.starting.make_workers.Goals as goal
 

@@ -3,7 +3,7 @@ use Rattle.std.specs.List.{range_with_len}
 use Rattle.std.specs.Option.{option_to_list}
 use Rattle.std.proofs.lemmas.Bool.{and_from, le-leb, lt-ltb}
 use Rattle.tag_model.specs.Index.{page_index}
-use Rattle.tag_rule.specs.Made.{AreFresh, fresh_pages}
+use Rattle.tag_rule.specs.Made.{AreFresh, fresh_pages, pages_of}
 use Rattle.tag_rule.specs.Shown.{Board, PoolShown, has}
 use Rattle.tag_rule.proofs.Runs.{has_range}
 use Rattle.split_swap.proofs.tests.new_bench.Goals as goal
@@ -11,9 +11,6 @@ use Rattle.split_swap.proofs.tests.new_bench.Goals as goal
 only : (xs : List PoolShown) (p r : PoolShown) → p ∷ [] ≡ xs ++ r ∷ [] → r ≡ p
 only [] p r e = cc
 only (x ∷ xs) p r e = absurd (let long = ap length e in omega (arith, long, length-append xs (r ∷ [])))
-
-abbrev pages_of : Board → ℕ → PoolShown
-pages_of b n = record { board = b; cells = range_with_len (page_index b.shape n 0) b.shape.frames }
 
 has_frames : (b : Board) (r : PoolShown) (frame : ℕ) → r ≡ pages_of b 0 → frame < b.shape.frames → IsTrue (has r (page_index r.board.shape 0 frame))
 has_frames b r frame is below =

@@ -1,17 +1,14 @@
 use Rattle.std.proofs.Common.{ℕ, ◌≡◌, ◌+◌, ◌<◌, IsTrue, List, Some, length, slice_get, sym, ap, ◌∙◌, subst, arith}
-use Rattle.std.specs.List.{range_with_len}
 use Rattle.std.proofs.lemmas.Bool.{and_from, le-leb, lt-ltb}
 use Rattle.tag_model.specs.declared.shape.Shape.{Shape}
 use Rattle.tag_model.specs.Index.{page_index}
+use Rattle.tag_rule.specs.Made.{pages_of}
 use Rattle.tag_rule.specs.Shown.{Board, PoolShown, has}
 use Rattle.tag_rule.proofs.Runs.{has_range}
 use Rattle.page_ext.specs.Shown.{NodeShown}
 use Rattle.slab_ext.specs.Vectors.{IsWhole, VectorsShown}
 use Rattle.slab_ext.proofs.Made.{count_vectors, inside_first, made_whole, of_board}
 use Rattle.slab_cache.proofs.tests.desk.new_desk.Goals as goal
-
-abbrev pages_of : Board → ℕ → PoolShown
-pages_of b cpu = record { board = b; cells = range_with_len (page_index b.shape cpu 0) b.shape.frames }
 
 has_frame : (b : Board) (cpu frame : ℕ) → frame < b.shape.frames → IsTrue (has (pages_of b cpu) (page_index b.shape cpu frame))
 has_frame b cpu frame below =
