@@ -1,5 +1,5 @@
 -- Lanes that are cut in two, and put together again.
-use Rattle.std.proofs.Common.{◌≡◌, ℕ, zero, suc, Bool, true, false, List, [], ◌∷◌, ◌++◌, length, map, take, drop, refl, ap, subst, Result, Ok, Err, OnOk, arith, get_or}
+use Rattle.std.proofs.Common.{◌≡◌, ℕ, zero, suc, Bool, true, false, List, [], ◌∷◌, ◌++◌, length, map, take, drop, refl, ap, subst, arith, get_or}
 use Rattle.std.proofs.lemmas.List.{map-append}
 use Rattle.std.specs.Prelude.{◌<◌, ◌&&◌, slice_set}
 use Rattle.std.specs.List.{list_all}
@@ -87,11 +87,3 @@ module _ {V : Type 0} (items : V → Lane) where
   one_done (first ∷ []) (u ∷ ws) (b ∷ cs) lane w v c d few is r done = (subst (λ (ops : V). IsLaneDone (items ops) u v b d) is done, rest_done ws cs r.1)
   one_done (first ∷ next ∷ lanes) ws cs lane w v c d few is r done = absurd (omega (arith, few))
   one_done lanes ws cs lane w v c d few is r done = absurd r
-
-pub on_both : {X E A B C : Type 0} (r : Result X E) → (A → B → C) → OnOk r A → OnOk r B → OnOk r C
-on_both (Ok x) f a b = f a b
-on_both (Err e) f a b = tt
-
-pub on_one : {X E A B : Type 0} (r : Result X E) → (A → B) → OnOk r A → OnOk r B
-on_one (Ok x) f a = f a
-on_one (Err e) f a = tt

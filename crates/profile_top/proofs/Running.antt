@@ -15,12 +15,12 @@ use Rattle.trace.specs.TraceReading.{trace_of}
 use Rattle.round_check.specs.Walk.{rounds_of}
 use Rattle.trace_play.specs.Machine.{Machine}
 use Rattle.trace_play.specs.Play.{Outcome, Played, item_played, nothing_played, play, refusal_of, run_text, section_len, trace_played, trace_text, unless_refused, unless_room}
-use Rattle.trace_play.specs.Answer.{RunAnswer, answered, checked_answer, formed_answer, run_answer}
+use Rattle.trace_play.specs.Answer.{RunAnswer, answered, checked_answer, formed_answer, refusal_text, run_answer}
 use Rattle.trace_play.specs.Answer as meaning
 use Rattle.plant.specs.Fresh.{FitsShape}
 use Rattle.plant.specs.Table.{PlantShown}
 use Rattle.profile_top.specs.declared.answer.Answer.{Answer}
-use Rattle.profile_top.specs.Answers.{Gives, Written, input_limit, refusal_text, refused}
+use Rattle.profile_top.specs.Answers.{Gives, Written, input_limit, refused}
 use Rattle.profile_top.specs.Commands.{IsRunnable, RunLeaves, written_of}
 use Rattle.trace_run.specs.Runs.{HasRun}
 use Rattle.profile_top.specs.Spelled.{Accepts, Refuses, RunSays}
@@ -63,8 +63,8 @@ unfolding code_text
 same_text names why (inl full) = subst (λ (c : Code). code_text names c ≡ code_text [] c) (sym full) refl
 same_text names why (inr no_room) = subst (λ (c : Code). code_text names c ≡ code_text [] c) (sym no_room) refl
 
-same_line : (names : List (List ℕ)) (line : ℕ) (why : Code) → (why ≡ code.Full) ⊎ (why ≡ code.NoRoom) → refusal_text [] line why ≡ meaning.refusal_text names line why
-unfolding refusal_text meaning.refusal_text
+same_line : (names : List (List ℕ)) (line : ℕ) (why : Code) → (why ≡ code.Full) ⊎ (why ≡ code.NoRoom) → refusal_text [] line why ≡ refusal_text names line why
+unfolding refusal_text
 same_line names line why of_load = ap (λ (text : List ℕ). codes "line " ++ decimal line ++ codes ": " ++ text ++ codes "\n") (sym (same_text names why of_load))
 
 -- ---- what a trace gives whose rounds passed
@@ -87,13 +87,9 @@ form_passed : (input : List ℕ) (trace : Trace) (rounds : Result ⊤ (ℕ × Co
 unfolding run_answer
 form_passed input trace rounds e r = ap (λ (r : Result Trace (ℕ × Code)). formed_answer None r) e ∙ ap (λ (r : Result ⊤ (ℕ × Code)). checked_answer None trace r) r
 
-same_refusal : (names : List (List ℕ)) (line : ℕ) (why : Code) → refusal_text names line why ≡ meaning.refusal_text names line why
-unfolding refusal_text meaning.refusal_text
-same_refusal names line why = refl
-
 refusal_gives : (names : List (List ℕ)) (m : Machine) (answer : Answer) (line : ℕ) (why : Code) (run : RunAnswer) → run ≡ answered names m (Err (line, why)) → Gives answer (refused names (line, why)) → Gives answer (written_of run)
 refusal_gives names m answer line why run is gives = subst (λ (r : RunAnswer). Gives answer (written_of r)) (sym is)
-    (record { status = gives.status; text = gives.text ∙ same_refusal names line why })
+    (record { status = gives.status; text = gives.text })
 
 pub form_gives : (input : List ℕ) (answer : Answer) (line : ℕ) (why : Code) → trace_of input ≡ Err (line, why) → Gives answer (refused [] (line, why)) → Gives answer (written_of (run_answer None input))
 form_gives input answer line why e gives = refusal_gives [] meaning.untouched answer line why (run_answer None input) (form_refused input (line, why) e) gives
@@ -144,7 +140,7 @@ run_below input = formed_below (trace_of input)
 
 text_says : (names : List (List ℕ)) (m : Machine) (r : Result (List ℕ) (ℕ × Code)) (status : ℕ) (text : List ℕ) → status ≡ (answered names m r).status → text ≡ (answered names m r).text
     → MatchResult r (λ printed. Accepts printed status text) (λ why. Refuses names why status text)
-unfolding meaning.refusal_text
+unfolding refusal_text
 text_says names m (Ok printed) status text s t = (s, t)
 text_says names m (Err why) status text s t = (s, t)
 
@@ -153,13 +149,13 @@ TraceSays trace status text = MatchResult (trace_text trace None) (λ printed. A
 
 rounds_say : (trace : Trace) (r : Result ⊤ (ℕ × Code)) (status : ℕ) (text : List ℕ) → status ≡ (checked_answer None trace r).status → text ≡ (checked_answer None trace r).text
     → MatchResult r (λ done. TraceSays trace status text) (λ why. Refuses (names_of trace.sections) why status text)
-unfolding meaning.refusal_text
+unfolding refusal_text
 rounds_say trace (Ok done) status text s t = text_says (names_of trace.sections) (trace_played trace None).played.machine (trace_text trace None) status text s t
 rounds_say trace (Err why) status text s t = (s, t)
 
 form_says : (r : Result Trace (ℕ × Code)) (status : ℕ) (text : List ℕ) → status ≡ (formed_answer None r).status → text ≡ (formed_answer None r).text
     → MatchResult r (λ trace. MatchResult (rounds_of trace) (λ done. TraceSays trace status text) (λ why. Refuses (names_of trace.sections) why status text)) (λ why. Refuses [] why status text)
-unfolding meaning.refusal_text
+unfolding refusal_text
 form_says (Ok trace) status text s t = rounds_say trace (rounds_of trace) status text s t
 form_says (Err why) status text s t = (s, t)
 

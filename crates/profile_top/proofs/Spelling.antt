@@ -14,12 +14,13 @@ use Rattle.step_text.specs.StepReading.{steps_of}
 use Rattle.trace.specs.TraceReading.{trace_of}
 use Rattle.round_check.specs.Walk.{rounds_of}
 use Rattle.step_play.specs.Schedule.{Played, schedule_of}
+use Rattle.trace_play.specs.Answer.{refusal_text}
 use Rattle.info_read.specs.declared.row.InfoRow.{InfoRow}
 use Rattle.info_read.specs.Reading.{rows_of}
 use Rattle.info_group.specs.Grouping.{groups_of}
 use Rattle.info_group.specs.Text.{groups_text}
 use Rattle.profile_top.specs.declared.mode.Mode.{Mode}
-use Rattle.profile_top.specs.Answers.{IsInput, Served, ServedInPart, Written, answer_in, checked, first_of, grouped, is_schedule, played, rounds_checked, step_read, steps_checked, trace_checked, refusal_text, ok_text, info_refusal_text}
+use Rattle.profile_top.specs.Answers.{IsInput, Served, ServedInPart, Written, answer_in, checked, first_of, grouped, is_schedule, played, rounds_checked, step_read, steps_checked, trace_checked, ok_text, info_refusal_text}
 use Rattle.profile_top.specs.Spelled.{ServedBy, SentInPart, Accepts, Refuses, IsWell, StepSays, CheckSays, GroupsSay}
 use Rattle.profile_top.proofs.Serving.{limited, long_answer, short_answer}
 

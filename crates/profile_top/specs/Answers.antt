@@ -8,7 +8,6 @@ use Rattle.text_form.specs.Lines.{lines_of}
 use Rattle.input_form.specs.declared.code.Code.{Code}
 use Rattle.step_text.specs.declared.steps.Steps.{Steps}
 use Rattle.trace.specs.declared.traces.Trace.{Trace}
-use Rattle.input_form.specs.Codes.{code_text}
 use Rattle.step_text.specs.StepReading.{steps_of}
 use Rattle.trace.specs.TraceReading.{trace_of}
 use Rattle.round_check.specs.Walk.{rounds_of}
@@ -19,6 +18,7 @@ use Rattle.info_group.specs.Grouping.{groups_of}
 use Rattle.info_group.specs.Keys.{file_key, module_key}
 use Rattle.info_group.specs.Text.{groups_text}
 use Rattle.step_play.specs.Schedule.{Played, schedule_of}
+use Rattle.trace_play.specs.Answer.{refusal_text}
 use Rattle.profile_top.specs.declared.answer.Answer.{Answer}
 use Rattle.profile_top.specs.declared.mode.Mode.{Mode}
 use Rattle.profile_top.specs.declared.mode.Mode.TheVariants as mode
@@ -26,10 +26,6 @@ use Rattle.profile_top.specs.declared.mode.Mode.TheVariants as mode
 pub record Written : Type 0 where
   pub status : ℕ
   pub text : List ℕ
-
--- `line N: CODE`
-unfoldable pub refusal_text : List (List ℕ) → ℕ → Code → List ℕ
-refusal_text names line code = codes "line " ++ decimal line ++ codes ": " ++ code_text names code ++ codes "\n"
 
 abbrev pub refused : List (List ℕ) → ℕ × Code → Written
 refused names why = record { status = 1; text = refusal_text names why.0 why.1 }

@@ -2,7 +2,8 @@
 
 ghost use Rattle.std.specs.Prelude.{◌≡◌, ◌++◌, IfOk, OnOk};
 ghost use Rattle.tag_section.specs.Section.{names_of};
-ghost use Rattle.profile_top.specs.Answers.{Gives, refusal_text, refused};
+ghost use Rattle.profile_top.specs.Answers.{Gives, refused};
+ghost use Rattle.trace_play.specs.Answer.{refusal_text};
 
 use codetag::write_number;
 use std::alloc::{AllocError, Global};

@@ -55,14 +55,6 @@ unloads_users section e = by (is_loaded_as section e)
 
 -- ---- covered tags
 
-pub or_left : (a b : Bool) → a ≡ true → (a || b) ≡ true
-or_left true b e = refl
-or_left false b e = let no : ⊥ = cc in absurd no
-
-pub or_right : (a b : Bool) → b ≡ true → (a || b) ≡ true
-or_right true b e = refl
-or_right false b e = e
-
 pub covered_map : (kernel : ℕ) (f : Entry → Entry) → ((e : Entry) → KeepsRange e (f e)) → (entries : List Entry) (tag : Tag) → is_covered kernel (map f entries) tag ≡ is_covered kernel entries tag
 covered_map kernel f keeps entries tag = ap (λ b. ((tag.module == 0) && nat_lt tag.number kernel) || b) (any_map entries)
   where

@@ -35,7 +35,8 @@ use Rattle.trace_play.proofs.AloneLemmas.{both_true}
 use Rattle.trace_cover.specs.Cover.{AreNamed, IsOfSection, has_tag, is_covered}
 use Rattle.trace_cover.specs.Cover.{held_may}
 use Rattle.trace_cover.proofs.Passes.{AllMay, content_may}
-use Rattle.trace_cover.proofs.Areas.{book_map, covered_map, or_left, or_right, unloads, unloads_keeps, unloads_users}
+use Rattle.std.proofs.lemmas.Bool.{or_left, or_right}
+use Rattle.trace_cover.proofs.Areas.{book_map, covered_map, unloads, unloads_keeps, unloads_users}
 use Rattle.trace_cover.proofs.RoundMay.{cpus_area, round_may}
 
 -- the entries are a book of the trace's, and the keys have tags of the kernel's and of entries

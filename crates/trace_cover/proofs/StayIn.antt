@@ -22,7 +22,7 @@ use Rattle.trace_play.specs.Ready.{enters, runs_inside}
 use Rattle.trace_play.proofs.CpusTold.{CpuTold, cpu_told}
 use Rattle.trace_play.proofs.HooksFit.{cpu_set, either_or}
 use Rattle.trace_play.proofs.ModulesHold.{is_loaded, module_set, nobody_is}
-use Rattle.trace_cover.proofs.Areas.{or_left, or_right}
+use Rattle.std.proofs.lemmas.Bool.{or_left, or_right}
 
 filter_keeps : (section other : ℕ) (xs : List ℕ) → section ≢ other → list_any (λ x. eqb x section) xs ≡ true → list_any (λ x. eqb x section) (filter (λ x. not (eqb x other)) xs) ≡ true
 filter_keeps section other [] differ e = e

@@ -1,6 +1,6 @@
 -- The laws, from what is carried from item to item.
 use Rattle.std.proofs.Common.{◌≡◌, ℕ, ◌+◌, ◌<◌, ◌≤◌, Bool, true, false, List, [], ◌∷◌, ◌++◌, length, map, Option, Some, None, Ok, refl, sym, ◌∙◌, subst, arith, lt-ltb}
-use Rattle.std.proofs.lemmas.Bool.{and_from}
+use Rattle.std.proofs.lemmas.Bool.{and_from, or_left}
 use Rattle.std.specs.Prelude.{◌&&◌}
 use Rattle.std.specs.List.{enumerate_from, find, flat_map, list_all, range_with_len}
 use Rattle.std.proofs.lemmas.List.Folds.{list_all-append}
@@ -42,7 +42,6 @@ use Rattle.tag_model.specs.Reference.{live_total}
 use Rattle.tag_model.specs.Wrap.{wrap}
 use Rattle.std.proofs.lemmas.List.{append_assoc}
 use Rattle.trace_cover.specs.Cover.{AreCounted, AreNamed, HasCover, held_may, is_covered}
-use Rattle.trace_cover.proofs.Areas.{or_left}
 use Rattle.trace_cover.proofs.Passes.{AllMay, content_may}
 use Rattle.trace_cover.proofs.RoundMay.{cpus_area}
 use Rattle.trace_cover.proofs.Holds.{Covered, before_cleaning, cpus_last}

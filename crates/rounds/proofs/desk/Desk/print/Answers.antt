@@ -3,7 +3,7 @@ use Rattle.std.specs.Prelude.{All}
 use Rattle.tag_rule.specs.Shown.{CpuShown}
 use Rattle.run_text.specs.Rows.{quiet_rows}
 use Rattle.trace_play.specs.Printed.{some_rows_text}
-use Rattle.lanes.proofs.LaneLemmas.{on_one}
+use Rattle.round_worker.proofs.KeptLemmas.{on_ok}
 use Rattle.rounds.specs.Places.{machine_at}
 use Rattle.rounds.proofs.PrintsAt.{above_kernel, boards, prints}
 use Rattle.rounds.proofs.desk.Desk.print.Goals as goal
@@ -19,7 +19,7 @@ print_locked-requires-clause-modules c = above_kernel c.requires.place c.args.se
 
 pub returns-clause-text : goal.returns-clause-text
 returns-clause-text c p at =
-    on_one c.print_locked.result
+    on_ok c.print_locked.result
     (λ (text : c.print_locked.new.out.items ≡ c.args.out.now.items ++ some_rows_text c.args.top c.args.self.now.locked.sections (quiet_rows c.args.kept c.args.self.now.locked c.as_mut_slice.result.now)).
     text
     ∙ ap (λ (cpus : List CpuShown). c.args.out.now.items ++ some_rows_text c.args.top c.args.self.now.locked.sections (quiet_rows c.args.kept c.args.self.now.locked cpus)) c.as_mut_slice.ensures.value
