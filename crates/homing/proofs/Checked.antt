@@ -22,43 +22,10 @@ use Rattle.trace_play.specs.Owned.{one_if, is_in, has_frame, is_object_at, slab_
 use Rattle.trace_play.specs.Play.{played_so_far}
 use Rattle.trace_play.specs.Sound.{live_sum, IsSound}
 use Rattle.trace_play.proofs.MachineSound.{OnTheWay, home_low, machines_are_sound, one_home, ops_sound, sets_out}
-use Rattle.trace_play.proofs.NeedsMet.{object_place}
+use Rattle.trace_play.proofs.NeedsMet.{storage_there}
 use Rattle.trace_play.proofs.NodeLemmas.{is_in_it, must_be, own_home, same_number, taken_within}
 use Rattle.trace_play.proofs.TraceFits.{before_round, fits_of_round, modules_seats}
 use Rattle.homing.specs.Seats.{AllFind, FindsHome}
-
--- ---- storage that is given is of its node
-
-module _ (node : NodeState) (all : (Storage → ℕ) → ℕ) (sound : NodeSound node all) where
-  abbrev Given : Storage → Type 0
-  Given given = (weight : Storage → ℕ) → weight given ≤ all weight
-
-  block_there : (home frame order : ℕ) (holds : Held) → home ≡ node.node.cpu → Given (storage.Pages (record { home = home; frame = frame; order = order; holds = holds })) → frame + 2 ^ order ≤ length node.node.frames
-  block_there home frame order holds own given =
-      let c = node.node.cpu in
-      let some = pow_pos order in
-      let last = frame + 2 ^ order - 1 in
-      let has : has_frame c last (storage.Pages (record { home = home; frame = frame; order = order; holds = holds })) ≡ 1 =
-      ap (λ h. one_if (eqb h c && is_in last frame order)) own ∙ own_home c (is_in last frame order) ∙ ap one_if (is_in_it last frame order (omega arith) (omega arith)) in
-      let g = given (has_frame c last) in
-      let f = sound.frames last in
-      let below : last < length node.node.frames = taken_within node.node.frames last (must_be (all (has_frame c last) + slabs_sum (slab_has_frame last) 0 node.slabs) (get_or node.node.frames last false) f (omega arith)) in
-      omega arith
-
-  pub is_there : (given : Storage) → home_of given ≡ node.node.cpu → Given given → IsOf node given
-  is_there (storage.Pages block) own given = block_there block.home block.frame block.order block.holds own given
-  is_there (storage.Object home frame place vector holds) own given =
-      let c = node.node.cpu in
-      let w : is_object_at c frame place (Some vector) (storage.Object home frame place vector holds) ≡ 1 =
-      ap (λ h. one_if (eqb h c && (eqb frame frame && (eqb place place && eqb vector vector)))) own ∙ (λ i. one_if (same_number c i && (same_number frame i && (same_number place i && same_number vector i)))) in
-      let g = given (is_object_at c frame place (Some vector)) in
-      object_place node all sound frame place (Some vector) (omega arith)
-  is_there (storage.Uncounted home frame place) own given =
-      let c = node.node.cpu in
-      let w : is_object_at c frame place None (storage.Uncounted home frame place) ≡ 1 =
-      ap (λ h. one_if (eqb h c && (eqb frame frame && (eqb place place && true)))) own ∙ (λ i. one_if (same_number c i && (same_number frame i && (same_number place i && true)))) in
-      let g = given (is_object_at c frame place None) in
-      object_place node all sound frame place None (omega arith)
 
 -- ---- each in its turn
 
@@ -73,7 +40,7 @@ finds_on_the_way count m (given ∷ rest) o =
       record {
         low = low;
         own = own;
-        there = is_there node all (o.nodes home (omega (arith, o.long))) given (sym own) (λ weight. let s = sum_by-cons weight given rest in omega arith);
+        there = storage_there node all (o.nodes home (omega (arith, o.long))) given (sym own) (λ weight. let s = sum_by-cons weight given rest in omega arith);
       },
       finds_on_the_way count (storage_home m given) rest (one_home count m given rest o),
     )

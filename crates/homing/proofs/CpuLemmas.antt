@@ -1,6 +1,7 @@
 -- A CPU's words, and the moves of another CPU.
 use Rattle.std.proofs.Common.{◌≡◌, ◌≢◌, ℕ, zero, suc, ◌<◌, Bool, true, false, cond, eqb, List, [], ◌∷◌, ◌++◌, length, map, set, get_or, Option, Some, None, refl, ap, ◌∙◌, ne_eqb, arith}
 use Rattle.std.proofs.lemmas.Bool.{cond-false}
+use Rattle.round_worker.proofs.Rounds.{moved_by_both}
 use Rattle.tag_model.specs.declared.state.Held.{Held}
 use Rattle.tag_model.specs.declared.state.Held.TheVariants as held
 use Rattle.tag_model.specs.declared.state.Kind.TheVariants.{Bytes, Calls}
@@ -44,13 +45,6 @@ pub still_elsewhere : (given : Storage) (node : NodeState) (seat : CpuShown) →
 still_elsewhere given node seat other = ap (λ (words : List ℕ). record seat { part = record seat.part { words = words } }) (home_elsewhere seat.part.number given node seat.part.words other)
 
 -- ---- moves behind others
-
-words_after_both : (cpu : ℕ) (words : List ℕ) (one two : List Move) → words_after_moves cpu words (one ++ two) ≡ words_after_moves cpu (words_after_moves cpu words one) two
-words_after_both cpu words [] two = refl
-words_after_both cpu words (move ∷ one) two = words_after_both cpu (words_after_move cpu words move) one two
-
-moved_by_both : (one two : List Move) (seat : CpuShown) → moved_by (one ++ two) seat ≡ moved_by two (moved_by one seat)
-moved_by_both one two seat = ap (λ (words : List ℕ). record seat { part = record seat.part { words = words } }) (words_after_both seat.part.number seat.part.words one two)
 
 pub all_moved_by_both : (one two : List Move) (cpus : List CpuShown) → map (moved_by (one ++ two)) cpus ≡ map (moved_by two) (map (moved_by one) cpus)
 all_moved_by_both one two [] = refl

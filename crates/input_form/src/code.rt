@@ -126,9 +126,10 @@ pub(crate) enum Argument {
 }
 
 impl Code {
-    ghost use Rattle.std.specs.Prelude.{◌≡◌, ◌++◌, ◌<◌, length, OnOk, OnErr};
+    ghost use Rattle.std.specs.Prelude.{◌≡◌, ◌⊎◌, ◌++◌, ◌<◌, length, OnOk, OnErr};
     ghost use Rattle.codetag.specs.Prefix.{IsPrefix};
     ghost use Rattle.tag_section.specs.Section.{names_of};
+    ghost use Rattle.input_form.specs.declared.code.Argument.TheVariants.{Nothing};
     ghost use Rattle.input_form.specs.Codes.{code_word, argument_of, code_text};
 
     /// Appends the text. The number of a module is that of its section; a module that is none of them has no name.
@@ -198,6 +199,23 @@ impl Code {
             Code::Queue => b"queue",
             Code::NoStep => b"no-step",
             Code::Held => b"held",
+            Code::Full => b"full",
+            Code::NoRoom => b"no-room",
+            Code::Uneven => b"uneven",
+            Code::TooSmall => b"too-small",
+            Code::Orders => b"orders",
+            Code::Pages => b"pages",
+            Code::Deep => b"deep",
+            Code::NoHook => b"no-hook",
+            _ => self.word_before_argument(),
+        }
+    }
+
+    // The word of a code that has something behind it. Any other code has no word here.
+    fn word_before_argument(&self) -> &'static [u8]
+        ensures { (argument_of self.now ≡ Nothing) ⊎ (result.now ≡ code_word self.now) }
+    {
+        match self {
             Code::NotLive(_) => b"not-live",
             Code::KeyUsed(_) => b"key-used",
             Code::NotRunning(_) => b"not-running",
@@ -205,22 +223,15 @@ impl Code {
             Code::NotLoaded(_) => b"not-loaded",
             Code::AlreadyLoaded(_) => b"already-loaded",
             Code::Busy(_) => b"busy",
-            Code::Full => b"full",
-            Code::NoRoom => b"no-room",
-            Code::Uneven => b"uneven",
-            Code::TooSmall => b"too-small",
             Code::SharedKey(_) => b"shared-key",
             Code::NoKey(_) => b"no-key",
             Code::Kind(_) => b"kind",
             Code::Trimmed(_) => b"trimmed",
-            Code::Orders => b"orders",
             Code::Bound(_) => b"bound",
-            Code::Pages => b"pages",
             Code::UnloadShared(_) => b"unload-shared",
             Code::NotInside(_) => b"not-inside",
             Code::Hooked(_) => b"hooked",
-            Code::Deep => b"deep",
-            Code::NoHook => b"no-hook",
+            _ => b"",
         }
     }
 

@@ -8,7 +8,7 @@ use Rattle.std.proofs.lemmas.Grind.{get_or-set_at}
 use Rattle.std.proofs.lemmas.List.{length-set, get_or-set_other}
 use Rattle.input_form.specs.declared.code.Code.{Code}
 use Rattle.input_form.specs.declared.code.Code.TheVariants as code
-use Rattle.input_form.proofs.Judged.{bound, given, passed, skipped, checked, checks}
+use Rattle.input_form.proofs.Judged.{bound, given, passed, skipped, checked, checks, weaker}
 use Rattle.round_check.specs.declared.keys.Bound.{Bound}
 use Rattle.round_check.specs.declared.keys.Bound.TheVariants as kept
 use Rattle.round_check.specs.declared.keys.KeyState.{KeyState}
@@ -20,14 +20,14 @@ use Rattle.round_check.specs.Tables.{unbound}
 pub by_bool : {P : Type 0} (b : Bool) → (b ≡ true → P) → (b ≡ false → P) → P
 by_bool {P} b so otherwise = cond_both b true true (λ _. P) so otherwise
 
-no_truth : {P : Type 0} → false ≡ true → P
+pub no_truth : {P : Type 0} → false ≡ true → P
 no_truth e = let no : ⊥ = cc in absurd no
 
 or_false : (a b : Bool) → (a || b) ≡ false → (a ≡ false) × (b ≡ false)
 or_false true b e = let no : ⊥ = cc in absurd no
 or_false false b e = (refl, e)
 
-or_left : (a b : Bool) → (a || b) ≡ true → b ≡ false → a ≡ true
+pub or_left : (a b : Bool) → (a || b) ≡ true → b ≡ false → a ≡ true
 or_left true b e none = refl
 or_left false b e none = let no : ⊥ = cc in absurd no
 
@@ -66,10 +66,6 @@ binds_all turn what [] keys = binds_none turn keys
 binds_all turn what (key ∷ names) keys = binds_more turn what key names keys _ (binds_all turn what names (bind keys turn what key))
 
 -- ---- what was found
-
-weaker : {A E : Type 0} (Q P : A → Type 0) (r : Result A E) → ((x : A) → Q x → P x) → IfOk r Q → IfOk r P
-weaker Q P (Ok x) more h = more x h
-weaker Q P (Err e) more h = tt
 
 -- no earlier line of the round, of another CPU, names the key
 abbrev pub is_own : List KeyState → Turn → ℕ → Bool
@@ -136,15 +132,15 @@ take_key_in keys turn key what below =
     passed {Q = is_own keys turn key ≡ true} after (own_key keys turn key) _ (own_in keys turn key)
     (λ own. skipped after (free_key keys key) _ (named_one turn (Some what) key keys below own))
 
-some_in : {A : Type 0} (o : Option A) (c : Code) → IfOk (ok_or o c) (λ x. o ≡ Some x)
+pub some_in : {A : Type 0} (o : Option A) (c : Code) → IfOk (ok_or o c) (λ x. o ≡ Some x)
 some_in None c = tt
 some_in (Some x) c = refl
 
-bound_in : (keys : List KeyState) (key : ℕ) → IfOk (bound_key keys key) (λ what. (key_at keys key).bound ≡ Some what)
+pub bound_in : (keys : List KeyState) (key : ℕ) → IfOk (bound_key keys key) (λ what. (key_at keys key).bound ≡ Some what)
 unfolding bound_key
 bound_in keys key = some_in (key_at keys key).bound (code.NoKey key)
 
-block_in : (key : ℕ) (what : Bound) → IfOk (block_of key what) (λ block. what ≡ kept.Block block)
+pub block_in : (key : ℕ) (what : Bound) → IfOk (block_of key what) (λ block. what ≡ kept.Block block)
 block_in key kept.Object = tt
 block_in key (kept.Block block) = refl
 

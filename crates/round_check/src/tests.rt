@@ -17,9 +17,20 @@ fn refusal(rt: &impl Abort, alloc: Global, text: &[u8]) -> Option<TextError> {
     }
 }
 
+// Each body is refused at its line, with its code.
+fn are_refused(rt: &impl Abort, alloc: Global, cases: &[(&[u8], u32, Code)]) -> Result<(), Fail> {
+    for &(body, line, code) in cases {
+        let mut text = Vec::from_slice(alloc, HEAD)?;
+        text.extend_from_slice(body)?;
+        let wanted = TextError::Refused { line, code };
+        assert_eq!(rt; refusal(rt, alloc, &text), Some(wanted));
+    }
+    Ok(())
+}
+
 #[test]
-fn bodies(rt: HostRuntime) -> Result<(), Fail> {
-    let cases: [(&[u8], u32, Code); 20] = [
+fn refused_by_the_reader(rt: HostRuntime) -> Result<(), Fail> {
+    let cases: [(&[u8], u32, Code); 8] = [
         (b"on 9\n", 7, Code::NoRound),
         (b"round\non 9 free\n", 8, Code::Word),
         (b"round\nprint\non 0 free 1\n", 9, Code::NoRound),
@@ -28,6 +39,13 @@ fn bodies(rt: HostRuntime) -> Result<(), Fail> {
         (b"load kernel\n", 7, Code::Module),
         (b"round\non 0 page 1 11\n", 8, Code::Number),
         (b"round\ntag mm/slub.c 2 slab\n", 8, Code::Order),
+    ];
+    are_refused(&rt, rt.alloc(), &cases)
+}
+
+#[test]
+fn refused_keys(rt: HostRuntime) -> Result<(), Fail> {
+    let cases: [(&[u8], u32, Code); 7] = [
         (
             b"round\non 0 page 1 0\non 1 free 1\n",
             9,
@@ -55,6 +73,13 @@ fn bodies(rt: HostRuntime) -> Result<(), Fail> {
             9,
             Code::Kind(1),
         ),
+    ];
+    are_refused(&rt, rt.alloc(), &cases)
+}
+
+#[test]
+fn refused_modules_and_hooks(rt: HostRuntime) -> Result<(), Fail> {
+    let cases: [(&[u8], u32, Code); 5] = [
         (
             b"round\non 0 enter ext\non 0 hook ext:0\nround\non 0 unload ext\n",
             11,
@@ -77,13 +102,7 @@ fn bodies(rt: HostRuntime) -> Result<(), Fail> {
             Code::NoHook,
         ),
     ];
-    for (body, line, code) in cases {
-        let mut text = Vec::from_slice(rt.alloc(), HEAD)?;
-        text.extend_from_slice(body)?;
-        let wanted = TextError::Refused { line, code };
-        assert_eq!(rt; refusal(&rt, rt.alloc(), &text), Some(wanted));
-    }
-    Ok(())
+    are_refused(&rt, rt.alloc(), &cases)
 }
 
 // As many rounds as an input may have lines, behind rounds in which every line passes.

@@ -13,7 +13,8 @@ use Rattle.reclaim.specs.State.{LockedShown}
 use Rattle.reclaim.specs.Sweeps.{with_entries}
 use Rattle.round_modules.specs.Known.{dead_unless, stays}
 use Rattle.round_modules.proofs.Closing.{same_entry}
-use Rattle.round_modules.proofs.CpuLists.{dead_state, loaded_state}
+use Rattle.reclaim.proofs.Enter.{loaded_state}
+use Rattle.round_modules.proofs.CpuLists.{dead_state}
 use Rattle.round_modules.proofs.Members.{entry_is}
 
 pub at_place : (book : Area) (es : List Entry) (place : ℕ) (entry d : Entry) → book.entries ≡ es → place < length es → slice_get book.entries place ≡ Some entry → get_or es place d ≡ entry

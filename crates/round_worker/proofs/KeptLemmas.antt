@@ -9,7 +9,7 @@ use Rattle.trace_play.specs.Live.{part_key}
 use Rattle.round_worker.specs.declared.keys.Kept.{Kept}
 use Rattle.round_worker.specs.Kept.{IsKept, KeyList}
 use Rattle.round_worker.specs.Parting.{AreKept, with_parts}
-use Rattle.round_worker.proofs.KeyLemmas.{others}
+use Rattle.round_worker.proofs.KeyLemmas.{never, others}
 
 pub on_ok : {X E A B : Type 0} (r : Result X E) → (A → B) → OnOk r A → OnOk r B
 on_ok (Ok x) f a = f a
@@ -17,9 +17,6 @@ on_ok (Err e) f a = tt
 
 pub inside_some : {X : Type 0} (x y : X) → Some x ≡ Some y → x ≡ y
 inside_some x y e = ap (λ o. unwrap_or o x) e
-
-pub never : {X : Type 0} {A : Type 0} (x : X) → None ≡ Some x → A
-never x e = let no : ⊥ = cc in absurd no
 
 pub kept_put : (board : Board) (old now : KeyList) (key : ℕ) (kept : Kept) → now ≡ put nat_cmp key kept old → AreKept board old → IsKept board kept → AreKept board now
 kept_put board old now key kept is own one q other found =

@@ -9,7 +9,7 @@ use Rattle.std.specs.FinMap.Entries.{find, put, where_key, is_sorted, below_all,
 use Rattle.std.proofs.lemmas.Bool.{cases_Bool, cond-true, cond-false, eqb-false}
 use Rattle.std.proofs.lemmas.List.Elements.{All-cons, All-nil}
 use Rattle.trace_play.specs.Live.{Live}
-use Rattle.trace_play.proofs.Entries.{find_put, find_kept, find_put_all, put_all, sorted_put, sorted_put_all, sorted_kept, same, kept_put}
+use Rattle.trace_play.proofs.Entries.{before_or_behind, find_put, find_kept, find_put_all, put_all, sorted_put, sorted_put_all, sorted_kept, same, kept_put}
 use Rattle.round_worker.specs.declared.keys.Kept.{Kept}
 use Rattle.round_worker.specs.Kept.{KeyList, by_key, content_of, live_of}
 
@@ -24,12 +24,7 @@ turned : {A : Type 0} (b : Bool) (x y : A) → cond (not b) x y ≡ cond b y x
 turned true x y = refl
 turned false x y = refl
 
--- what is put at a key before or behind the others, which don't have it
-before_or_behind : {A : Type 0} (b : Bool) (v : A) (others into : Option A) → (b ≡ true → others ≡ None) → option_or others (cond b (Some v) into) ≡ option_or (cond b (Some v) others) into
-before_or_behind true v others into none = ap (λ o. option_or o (Some v)) (none refl)
-before_or_behind false v others into none = refl
-
-never : {X : Type 0} {A : Type 0} (x : X) → None ≡ Some x → A
+pub never : {X : Type 0} {A : Type 0} (x : X) → None ≡ Some x → A
 never x e = let no : ⊥ = cc in absurd no
 
 module _ {X : Type 0} where

@@ -13,8 +13,8 @@ use Rattle.trace_play.specs.Fitting.{IsOf, IsThere}
 use Rattle.page_ext.specs.Blocks.{page_bytes}
 use Rattle.round_worker.specs.declared.keys.Kept.{Kept}
 use Rattle.round_worker.specs.Kept.{KeyList, MaySplit, MaySwap, MayTrim, content_of, live_of}
-use Rattle.round_worker.proofs.KeyLemmas.{live_find, others}
-use Rattle.round_worker.proofs.KeptLemmas.{inside_some, never}
+use Rattle.round_worker.proofs.KeyLemmas.{live_find, never, others}
+use Rattle.round_worker.proofs.KeptLemmas.{inside_some}
 
 module _ (key : ℕ) (keys : KeyList) (kept : Kept) (found : Some kept ≡ find nat_cmp key keys) where
   -- the key has this in the meaning too

@@ -1,11 +1,10 @@
 -- A tag under which a CPU may count is one of the table's tags.
 use Rattle.std.proofs.Common.{◌+◌, ◌<◌, ◌^◌, ◌==◌, List, [], ◌∷◌, nat_lt, sym, ap, ◌∙◌, arith, ⊎_elim, leb-true, ltb-true}
 use Rattle.page_ext.proofs.Cells.{range_high}
-use Rattle.trace_play.proofs.AloneLemmas.{both_true}
 use Rattle.std.specs.Prelude.{◌&&◌, ◌||◌}
 use Rattle.std.specs.Bool.{IsTrue}
 use Rattle.std.specs.List.{list_all, list_any}
-use Rattle.std.proofs.lemmas.Bool.{cases_Bool, cond-true, cond-false}
+use Rattle.std.proofs.lemmas.Bool.{cases_Bool, cond-true, cond-false, and_parts}
 use Rattle.tag_model.specs.declared.shape.Shape.{Shape}
 use Rattle.tag_model.specs.declared.state.Run.{Run}
 use Rattle.tag_model.specs.declared.state.Tag.{Tag}
@@ -17,12 +16,12 @@ use Rattle.round_worker.specs.Shown.{may_count}
 low : (k : Shape) (tag : Tag) (runs : List Run) → IsTrue (list_all (run_in_tags k) runs) → IsTrue (list_any (λ (r : Run). (r.id == tag.module) && in_range r.start r.length tag.number) runs) → tag.number < k.tags
 low k tag [] all any = let no : ⊥ = cc in absurd no
 low k tag (run ∷ runs) all any =
-    let parts = both_true (run_in_tags k run) (list_all (run_in_tags k) runs) all in
+    let parts = and_parts (run_in_tags k run) (list_all (run_in_tags k) runs) all in
     let within = in_range run.start run.length tag.number in
     let here = (run.id == tag.module) && within in
     let rest = list_any (λ (r : Run). (r.id == tag.module) && in_range r.start r.length tag.number) runs in
     ⊎_elim
-    (λ yes. omega (arith, range_high run.start run.length tag.number (both_true (run.id == tag.module) within yes).1, leb-true (run.start + run.length) k.tags parts.0))
+    (λ yes. omega (arith, range_high run.start run.length tag.number (and_parts (run.id == tag.module) within yes).1, leb-true (run.start + run.length) k.tags parts.0))
     (λ no. low k tag runs parts.1 (ap (λ b. b || rest) (sym no) ∙ any))
     (cases_Bool here)
 

@@ -2,8 +2,9 @@
 use Rattle.std.proofs.Common.{◌≡◌, ℕ, zero, suc, ◌+◌, ◌<◌, ◌≤◌, true, false, cond, eqb, ltb, List, [], ◌∷◌, ◌++◌, map, length, Option, Ok, sum_by, refl, sym, ap, ap₂, ◌∙◌, subst, arith, ltb-true}
 use Rattle.std.specs.Prelude.{◌&&◌}
 use Rattle.std.specs.List.{list_all, range_with_len}
-use Rattle.std.proofs.lemmas.Bool.{ne_eqb}
+use Rattle.std.proofs.lemmas.Bool.{ne_eqb, and_parts}
 use Rattle.std.proofs.lemmas.List.Sums.{sum_by-cons}
+use Rattle.trace_play.proofs.RangeSums.{zeros_beyond}
 use Rattle.tag_model.specs.declared.state.Kind.{Kind}
 use Rattle.tag_model.specs.Laws.{same_kind}
 use Rattle.tag_model.specs.Moves.{Move, is_on, moved_word}
@@ -18,7 +19,6 @@ use Rattle.trace.specs.declared.traces.Trace.{Trace}
 use Rattle.trace_play.specs.Machine.{live_cells}
 use Rattle.trace_play.specs.Play.{played_so_far}
 use Rattle.trace_play.specs.Totals.{IsAccounted, words_total}
-use Rattle.trace_play.proofs.NodeLemmas.{both_hold}
 use Rattle.trace_play.proofs.TotalsHold.{accounted, totals_after}
 use Rattle.trace_play.proofs.WordsTotal.{AreLow, low_after, words_are_live}
 use Rattle.run_text.specs.Rows.{AreMoved, TotalsAreLive}
@@ -28,21 +28,6 @@ use Rattle.run_text.specs.Rows.{AreMoved, TotalsAreLive}
 sum_of_map : {X : Type 0} (f : X → ℕ) (xs : List X) → sum_by f xs ≡ sum_by (λ n. n) (map f xs)
 sum_of_map f [] = refl
 sum_of_map f (x ∷ xs) = sum_by-cons f x xs ∙ ap (λ n. f x + n) (sum_of_map f xs) ∙ sym (sum_by-cons (λ n. n) (f x) (map f xs))
-
-module _ (f : ℕ → ℕ) where
-  zeros : (a n : ℕ) → ((i : ℕ) → a ≤ i → f i ≡ 0) → sum_by f (range_with_len a n) ≡ 0
-  zeros a zero none = refl
-  zeros a (suc n) none =
-      sum_by-cons f a (range_with_len (a + 1) n) ∙ ap₂ (λ x y. x + y) (none a (omega arith)) (zeros (a + 1) n (λ i from. none i (omega (arith, from))))
-
-  -- what is 0 from some number on adds nothing
-  zeros_beyond : (a n all : ℕ) → n ≤ all → ((i : ℕ) → a + n ≤ i → f i ≡ 0) → sum_by f (range_with_len a all) ≡ sum_by f (range_with_len a n)
-  zeros_beyond a zero all few none = zeros a all (λ i from. none i (omega (arith, from)))
-  zeros_beyond a (suc n) zero few none = absurd (omega (arith, few))
-  zeros_beyond a (suc n) (suc all) few none =
-      sum_by-cons f a (range_with_len (a + 1) all)
-      ∙ ap (λ x. f a + x) (zeros_beyond (a + 1) n all (omega (arith, few)) (λ i from. none i (omega (arith, from))))
-      ∙ sym (sum_by-cons f a (range_with_len (a + 1) n))
 
 -- ---- a CPU that made no move
 
@@ -59,7 +44,7 @@ module _ (kind : Kind) (t count cpu : ℕ) (beyond : count ≤ cpu) where
   none_on : (share : Move → ℕ) (moves : List Move) → AreLow count moves → sum_by (moved share) moves ≡ 0
   none_on share [] low = refl
   none_on share (mv ∷ moves) low =
-      let b = both_hold (ltb mv.cpu count) (list_all (λ (x : Move). ltb x.cpu count) moves) low in
+      let b = and_parts (ltb mv.cpu count) (list_all (λ (x : Move). ltb x.cpu count) moves) low in
       sum_by-cons (moved share) mv moves ∙ ap₂ (λ x y. x + y) (not_on share mv b.0) (none_on share moves b.1)
 
   pub no_word : (moves : List Move) → AreLow count moves → moved_word moves cpu kind t ≡ 0

@@ -5,6 +5,7 @@ use Rattle.std.specs.List.{list_all, range_with_len}
 use Rattle.std.proofs.lemmas.List.{get_or-map, length-map}
 use Rattle.std.proofs.lemmas.List.FromFn.{get_or-map-range_with_len, length-map-range_with_len}
 use Rattle.std.proofs.lemmas.List.Sums.{fold-append}
+use Rattle.std.proofs.lemmas.Bool.{and_parts}
 use Rattle.tag_model.specs.Moves.{Move}
 use Rattle.tag_model.specs.WordState.{word_place}
 use Rattle.tag_model.specs.Wrap.{wrap_minus}
@@ -13,7 +14,6 @@ use Rattle.tag_rule.specs.Shown.{Board, CpuShown}
 use Rattle.tag_ref.specs.Refs.{moved_by}
 use Rattle.round_modules.specs.Inside.{outside}
 use Rattle.trace_play.specs.Machine.{Machine}
-use Rattle.trace_play.proofs.AloneLemmas.{both_true}
 use Rattle.trace_play.proofs.MovesOf.{AreOf}
 use Rattle.standing.specs.Standing.{CpusStand, standing_cpu}
 
@@ -34,7 +34,7 @@ stand_at b m cpus i d s low =
 pub none_of : (cpu : ℕ) (is_one : ℕ → Bool) → is_one cpu ≡ false → (words : List ℕ) (moves : List Move) → AreOf is_one moves → words_after_moves cpu words moves ≡ words
 none_of cpu is_one out words [] a = refl
 none_of cpu is_one out words (move ∷ moves) a =
-    let both = both_true (is_one move.cpu) (list_all (λ (m : Move). is_one m.cpu) moves) a in
+    let both = and_parts (is_one move.cpu) (list_all (λ (m : Move). is_one m.cpu) moves) a in
     ap (λ ws. words_after_moves cpu ws moves) (by (eqb move.cpu cpu) refl both.0) ∙ none_of cpu is_one out words moves both.1
   where
     by : (b : Bool) → eqb move.cpu cpu ≡ b → is_one move.cpu ≡ true → words_after_move cpu words move ≡ words

@@ -5,6 +5,7 @@ use Rattle.std.specs.List.{range_with_len}
 use Rattle.std.proofs.lemmas.Bool.{cases_lt}
 use Rattle.std.proofs.lemmas.List.{get_or-replicate, get_or_past, length-replicate, length-set}
 use Rattle.std.proofs.lemmas.List.Sums.{sum_by-cons}
+use Rattle.trace_play.proofs.RangeSums.{zeros, zeros_beyond}
 use Rattle.tag_model.specs.declared.state.Kind.{Kind}
 use Rattle.tag_model.specs.Moves.{Move, moved_word}
 use Rattle.tag_model.specs.RefMoves.{words_after_move, words_after_moves}
@@ -26,21 +27,6 @@ use Rattle.standing.proofs.CpusMoved.{none_of}
 sum_map : {X Y : Type 0} (f : Y → ℕ) (g : X → Y) (xs : List X) → sum_by f (map g xs) ≡ sum_by (λ x. f (g x)) xs
 sum_map f g [] = refl
 sum_map f g (x ∷ xs) = sum_by-cons f (g x) (map g xs) ∙ ap (λ n. f (g x) + n) (sum_map f g xs) ∙ sym (sum_by-cons (λ y. f (g y)) x xs)
-
-module _ (f : ℕ → ℕ) where
-  zeros : (a n : ℕ) → ((i : ℕ) → a ≤ i → f i ≡ 0) → sum_by f (range_with_len a n) ≡ 0
-  zeros a zero none = refl
-  zeros a (suc n) none =
-      sum_by-cons f a (range_with_len (a + 1) n) ∙ ap₂ (λ x y. x + y) (none a (omega arith)) (zeros (a + 1) n (λ i from. none i (omega (arith, from))))
-
-  -- what is 0 from some number on adds nothing
-  zeros_beyond : (a n all : ℕ) → n ≤ all → ((i : ℕ) → a + n ≤ i → f i ≡ 0) → sum_by f (range_with_len a all) ≡ sum_by f (range_with_len a n)
-  zeros_beyond a zero all few none = zeros a all (λ i from. none i (omega (arith, from)))
-  zeros_beyond a (suc n) zero few none = absurd (omega (arith, few))
-  zeros_beyond a (suc n) (suc all) few none =
-      sum_by-cons f a (range_with_len (a + 1) all)
-      ∙ ap (λ x. f a + x) (zeros_beyond (a + 1) n all (omega (arith, few)) (λ i from. none i (omega (arith, from))))
-      ∙ sym (sum_by-cons f a (range_with_len (a + 1) n))
 
 -- ---- one CPU's words
 

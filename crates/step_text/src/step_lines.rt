@@ -1,6 +1,8 @@
 //! The lines of a schedule's body.
 
-ghost use Rattle.std.specs.Prelude.{◌≡◌, ◌≤◌};
+ghost use Rattle.std.specs.Prelude.{◌≡◌, ◌≤◌, List};
+ghost use Rattle.tag_section.specs.Section.{Section};
+ghost use Rattle.step_text.specs.declared.step_words.OpName.TheVariants as name;
 ghost use Rattle.step_text.specs.StepGrammar.{op_words, is_managers, belongs, actor_word, new_keys_fit, step_op, do_line, count_word, go_line, words_line};
 
 use crate::step_words::{OpName, op_name};
@@ -67,45 +69,69 @@ fn new_keys_fit(key: u32, parts: u32, first: u32) -> bool
     last <= KEY_LIMIT && !(first <= key && key <= last)
 }
 
+// `open KEY TAG SIZE`
+#[tactic(auto, unfolding(crate::specs::StepGrammar::step_op))]
+fn open_op(sections: &Sections, line: &LineWords<'_>) -> Result<StepOp, Code>
+    ensures { result ≡ step_op sections.now name.Open line.now }
+{
+    let key = key_word(line.at(3))?;
+    let (section, index) = tag_word(sections, line.at(4))?;
+    let size = size_word(line.at(5), 1, SIZE_LIMIT)?;
+    Ok(StepOp::Open {
+        key,
+        section,
+        index,
+        size,
+    })
+}
+
+// `split KEY PARTS FIRST`
+#[tactic(auto, unfolding(crate::specs::StepGrammar::step_op))]
+fn split_op(line: &LineWords<'_>) -> Result<StepOp, Code>
+    ensures { (sections : List Section) → result ≡ step_op sections name.Split line.now }
+{
+    let key = key_word(line.at(3))?;
+    let parts = number_word(line.at(4), 2, 1024)?;
+    let first = key_word(line.at(5))?;
+    need(new_keys_fit(key, parts, first), Code::Keys)?;
+    Ok(StepOp::Split { key, parts, first })
+}
+
+// `swap ONE TWO`
+#[tactic(auto, unfolding(crate::specs::StepGrammar::step_op))]
+fn swap_op(line: &LineWords<'_>) -> Result<StepOp, Code>
+    ensures { (sections : List Section) → result ≡ step_op sections name.Swap line.now }
+{
+    let one = key_word(line.at(3))?;
+    let two = key_word(line.at(4))?;
+    need(one != two, Code::Same)?;
+    Ok(StepOp::Swap { one, two })
+}
+
+// `trim KEY BYTES`
+#[tactic(auto, unfolding(crate::specs::StepGrammar::step_op))]
+fn trim_op(line: &LineWords<'_>) -> Result<StepOp, Code>
+    ensures { (sections : List Section) → result ≡ step_op sections name.Trim line.now }
+{
+    let key = key_word(line.at(3))?;
+    let bytes = size_word(line.at(4), 1, SIZE_LIMIT)?;
+    Ok(StepOp::Trim { key, bytes })
+}
+
 // The words of an op from the fourth on.
 #[tactic(auto, unfolding(crate::specs::StepGrammar::step_op))]
 fn step_op(sections: &Sections, name: OpName, line: &LineWords<'_>) -> Result<StepOp, Code>
     ensures { result ≡ step_op sections.now name line.now }
 {
     match name {
-        OpName::Open => {
-            let key = key_word(line.at(3))?;
-            let (section, index) = tag_word(sections, line.at(4))?;
-            let size = size_word(line.at(5), 1, SIZE_LIMIT)?;
-            Ok(StepOp::Open {
-                key,
-                section,
-                index,
-                size,
-            })
-        }
+        OpName::Open => open_op(sections, line),
         OpName::Close => {
             let key = key_word(line.at(3))?;
             Ok(StepOp::Close { key })
         }
-        OpName::Split => {
-            let key = key_word(line.at(3))?;
-            let parts = number_word(line.at(4), 2, 1024)?;
-            let first = key_word(line.at(5))?;
-            need(new_keys_fit(key, parts, first), Code::Keys)?;
-            Ok(StepOp::Split { key, parts, first })
-        }
-        OpName::Swap => {
-            let one = key_word(line.at(3))?;
-            let two = key_word(line.at(4))?;
-            need(one != two, Code::Same)?;
-            Ok(StepOp::Swap { one, two })
-        }
-        OpName::Trim => {
-            let key = key_word(line.at(3))?;
-            let bytes = size_word(line.at(4), 1, SIZE_LIMIT)?;
-            Ok(StepOp::Trim { key, bytes })
-        }
+        OpName::Split => split_op(line),
+        OpName::Swap => swap_op(line),
+        OpName::Trim => trim_op(line),
         OpName::Enter => {
             let section = module_word(sections, line.at(3))?;
             Ok(StepOp::Enter { section })

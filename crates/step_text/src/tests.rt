@@ -10,6 +10,22 @@ fn refusal(rt: &impl Abort, alloc: Global, text: &[u8]) -> Option<TextError> {
     read_steps(alloc, text).err()
 }
 
+// Each body behind the head is refused at its line, with its code.
+fn are_refused(
+    rt: &impl Abort,
+    alloc: Global,
+    head: &[u8],
+    cases: &[(&[u8], u32, Code)],
+) -> Result<(), Fail> {
+    for &(body, line, code) in cases {
+        let mut text = Vec::from_slice(alloc, head)?;
+        text.extend_from_slice(body)?;
+        let wanted = TextError::Refused { line, code };
+        assert_eq!(rt; refusal(rt, alloc, &text), Some(wanted));
+    }
+    Ok(())
+}
+
 #[test]
 fn a_schedule(rt: HostRuntime) -> Result<(), Fail> {
     let text =
@@ -59,7 +75,7 @@ fn a_schedule(rt: HostRuntime) -> Result<(), Fail> {
 }
 
 #[test]
-fn refused_heads(rt: HostRuntime) {
+fn refused_heads(rt: HostRuntime) -> Result<(), Fail> {
     let cases: [(&[u8], u32, Code); 9] = [
         (b"", 1, Code::Header),
         (b"memprof-steps 1.0", 1, Code::Cut),
@@ -71,10 +87,7 @@ fn refused_heads(rt: HostRuntime) {
         (b"memprof-steps 1.0\nkernel\nkernel\n", 3, Code::Order),
         (b"memprof-steps 1.0\ncpus 1\ncpus\n", 3, Code::Repeat),
     ];
-    for (text, line, code) in cases {
-        let wanted = TextError::Refused { line, code };
-        assert_eq!(rt; refusal(&rt, rt.alloc(), text), Some(wanted));
-    }
+    are_refused(&rt, rt.alloc(), b"", &cases)
 }
 
 // The body begins at line 4.
@@ -96,13 +109,7 @@ fn bodies(rt: HostRuntime) -> Result<(), Fail> {
         (b"cpus 1 2 3 4 5 6 7\n", 4, Code::Order),
         (b"# one\n\nprint\ntag mm/a.c 11 fa\n", 7, Code::Order),
     ];
-    for (body, line, code) in cases {
-        let mut text = Vec::from_slice(rt.alloc(), HEAD)?;
-        text.extend_from_slice(body)?;
-        let wanted = TextError::Refused { line, code };
-        assert_eq!(rt; refusal(&rt, rt.alloc(), &text), Some(wanted));
-    }
-    Ok(())
+    are_refused(&rt, rt.alloc(), HEAD, &cases)
 }
 
 // As many lines as an input may have, and one more. Of these, 64 print.

@@ -31,11 +31,10 @@ use Rattle.trace_play.specs.Fits.{RoundFits}
 use Rattle.trace_play.specs.Ready.{IsReady, MayCount, runs_inside}
 use Rattle.trace_play.specs.Worker.{tag_from}
 use Rattle.trace_play.proofs.Rising.{fold_keeps}
-use Rattle.trace_play.proofs.AloneLemmas.{both_true}
 use Rattle.trace_cover.specs.Cover.{AreNamed, IsOfSection, has_tag, is_covered}
 use Rattle.trace_cover.specs.Cover.{held_may}
 use Rattle.trace_cover.proofs.Passes.{AllMay, content_may}
-use Rattle.std.proofs.lemmas.Bool.{or_left, or_right}
+use Rattle.std.proofs.lemmas.Bool.{or_left, or_right, and_parts}
 use Rattle.trace_cover.proofs.Areas.{book_map, covered_map, unloads, unloads_keeps, unloads_users}
 use Rattle.trace_cover.proofs.RoundMay.{cpus_area, round_may}
 
@@ -246,10 +245,10 @@ cleaned_covered trace m c =
       unused = All-filter keep (λ (e : Entry). e.users ≡ 0) m.area.entries c.unused;
       refs = may_more (λ tag. is_covered kernel m.area.entries tag && is_named tag.module m) (is_covered kernel (filter keep m.area.entries))
           (λ tag h.
-          let both = both_true (is_covered kernel m.area.entries tag) (is_named tag.module m) h in
+          let both = and_parts (is_covered kernel m.area.entries tag) (is_named tag.module m) h in
           by_either ((tag.module == 0) && nat_lt tag.number kernel) (list_any (has_tag tag) m.area.entries) both.0
           (λ any. any_filter (has_tag tag) keep
-          (λ e has. kept_if e.state (is_named e.id m) (ap (λ id. is_named id m) (eqb-true e.id tag.module (both_true (e.id == tag.module) (covers e tag.number) has).0) ∙ both.1))
+          (λ e has. kept_if e.state (is_named e.id m) (ap (λ id. is_named id m) (eqb-true e.id tag.module (and_parts (e.id == tag.module) (covers e tag.number) has).0) ∙ both.1))
           m.area.entries any))
           m.live (both_may (is_covered kernel m.area.entries) (λ tag. is_named tag.module m) m.live c.refs (named_keys m));
     }

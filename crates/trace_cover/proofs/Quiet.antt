@@ -2,7 +2,7 @@
 use Rattle.std.proofs.Common.{◌≡◌, ◌≢◌, ℕ, zero, suc, ◌+◌, ◌<◌, ◌≤◌, Bool, true, false, cond, not, eqb, List, [], ◌∷◌, length, get_or, Option, Some, None, All, AllPairs, refl, sym, ap, ◌∙◌, subst, subst₂, arith, eqb-true, eq-eqb, ne_eqb, leb, ltb, leb-true, ltb-true, ⊎_elim}
 use Rattle.std.specs.Prelude.{◌&&◌, ◌==◌, ◌||◌, nat_lt}
 use Rattle.std.specs.List.{Any, enumerate_from, flat_map, list_all, list_any, range_with_len}
-use Rattle.std.proofs.lemmas.Bool.{cases_lt, eqb-false}
+use Rattle.std.proofs.lemmas.Bool.{cases_lt, eqb-false, and_parts}
 use Rattle.std.proofs.lemmas.List.{get_or_default}
 use Rattle.std.proofs.lemmas.List.Folds.{Any-from_list_any, list_any-append}
 use Rattle.std.proofs.lemmas.List.Sums.{sum_by-append, sum_by-cons}
@@ -29,7 +29,6 @@ use Rattle.trace_play.specs.Machine.{Machine, content_cell, live_cells, names, s
 use Rattle.trace_play.specs.Barrier.{is_named}
 use Rattle.trace_play.specs.Play.{section_len}
 use Rattle.trace_play.specs.Worker.{Seat}
-use Rattle.trace_play.proofs.AloneLemmas.{both_true}
 use Rattle.trace_play.proofs.HooksFit.{either_or}
 use Rattle.trace_cover.specs.Cover.{HasReference, has_tag, held_may, is_covered, is_quiet_at, is_quiet_range}
 use Rattle.trace_cover.proofs.Passes.{AllMay, content_may}
@@ -188,7 +187,7 @@ one_place R entries i j a b pairs low_i low_j is_a is_b not_ab not_ba =
 range_at : (p : ℕ → Bool) (from many t : ℕ) → list_all p (range_with_len from many) ≡ true → from ≤ t → t < from + many → p t ≡ true
 range_at p from zero t h low high = absurd (omega (arith, low, high))
 range_at p from (suc many) t h low high =
-    let both = both_true (p from) (list_all p (range_with_len (from + 1) many)) h in
+    let both = and_parts (p from) (list_all p (range_with_len (from + 1) many)) h in
     by_bool {P = p t ≡ true} (eqb t from)
     (λ e. ap p (eqb-true t from e) ∙ both.0)
     (λ e. let differ = eqb-false t from e in range_at p (from + 1) many t both.1 (omega (arith, low, differ)) (omega (arith, high)))
@@ -235,13 +234,13 @@ module _ (trace : Trace) (m : Machine) (c : Covered trace m) (kernel : section_l
       not_kernel : (tag : Tag) → tag.number ≡ t → ((tag.module == 0) && nat_lt tag.number (section_len trace 0)) ≡ false
       not_kernel tag at =
           by_bool {P = ((tag.module == 0) && nat_lt tag.number (section_len trace 0)) ≡ false} ((tag.module == 0) && nat_lt tag.number (section_len trace 0))
-          (λ h. let l = ltb-true tag.number (section_len trace 0) (both_true (tag.module == 0) _ h).1 in absurd (omega (arith, l, kernel, at, high)))
+          (λ h. let l = ltb-true tag.number (section_len trace 0) (and_parts (tag.module == 0) _ h).1 in absurd (omega (arith, l, kernel, at, high)))
           (λ h. h)
 
   tag_in_entry : (e : Entry) (tag : Tag) → has_tag tag e ≡ true → (e.id ≡ tag.module) × Covers e tag.number
   tag_in_entry e tag h =
-      let both = both_true (e.id == tag.module) (covers e tag.number) h in
-      let range = both_true (leb e.start tag.number) (ltb tag.number (e.start + e.length)) both.1 in
+      let both = and_parts (e.id == tag.module) (covers e tag.number) h in
+      let range = and_parts (leb e.start tag.number) (ltb tag.number (e.start + e.length)) both.1 in
       (eqb-true e.id tag.module both.0, (leb-true e.start tag.number range.0, ltb-true tag.number (e.start + e.length) range.1))
 
   loud_named : (k : ℕ) (e : Entry) → k < length m.area.entries → get_or m.area.entries k e ≡ e → is_quiet_range m e ≡ false → is_named e.id m ≡ true
@@ -269,7 +268,7 @@ module _ (trace : Trace) (m : Machine) (c : Covered trace m) (kernel : section_l
       let at : Covers e tag.number = subst (λ (x : Entry). Covers x tag.number) (sym same) found.1 in
       let count = machine_counts m tag.number (key.0, key.1, key.2, key.3, record { tag = tag; size = key.4.1; is = key.4.2; at = refl }) in
       let most = calls_most tag.number (live_cells m) in
-      let none : (wrap (live_total Calls tag.number (live_cells m)) == 0) ≡ true = (both_true (wrap (live_total Bytes tag.number (live_cells m)) == 0) _ (range_at (is_quiet_at m) e.start e.length tag.number quiet at.0 at.1)).1 in
+      let none : (wrap (live_total Calls tag.number (live_cells m)) == 0) ≡ true = (and_parts (wrap (live_total Bytes tag.number (live_cells m)) == 0) _ (range_at (is_quiet_at m) e.start e.length tag.number quiet at.0 at.1)).1 in
       let zero_is = eqb-true (wrap (live_total Calls tag.number (live_cells m))) 0 none in
       omega (arith, zero_is, count, most, few)
     where

@@ -4,6 +4,7 @@ use Rattle.std.specs.Prelude.{◌&&◌}
 use Rattle.std.specs.List.{range_with_len}
 use Rattle.std.specs.Cmp.{unsigned_tied}
 use Rattle.std.specs.FinMap.Entries.{find, is_sorted}
+use Rattle.std.proofs.lemmas.Bool.{and_parts}
 use Rattle.tag_model.specs.declared.state.Tag.{Tag}
 use Rattle.trace.specs.declared.traces.OnOp.{OnOp}
 use Rattle.trace.specs.declared.traces.Trace.{Trace}
@@ -17,7 +18,7 @@ use Rattle.trace_play.specs.Alone.{alone, rises, worker_done}
 use Rattle.trace_play.specs.Fits.{is_owner, RoundFits}
 use Rattle.trace_play.specs.Ready.{IsReady, MayCount}
 use Rattle.trace_play.proofs.Entries.{find_below, first_true, second_true}
-use Rattle.trace_play.proofs.AloneLemmas.{both_true, holds}
+use Rattle.trace_play.proofs.AloneLemmas.{holds}
 use Rattle.trace_play.proofs.Rising.{cpus_rise, fold_keeps}
 use Rattle.trace_play.proofs.SideBySide.{each_has, find_of_kept, unnamed}
 use Rattle.trace_cover.proofs.Passes.{AllMay, WorkerMay, content_may, found_may, ops_may, where_may}
@@ -50,7 +51,7 @@ module _ (may : Tag → Bool) where
       let cpu = (key_at f.after.keys key).cpu in
       by_bool {P = content_may may content ≡ true} (own cpu key && ltb cpu (length m.seats))
       (λ h.
-      let both = both_true (own cpu key) (ltb cpu (length m.seats)) h in
+      let both = and_parts (own cpu key) (ltb cpu (length m.seats)) h in
       let below : cpu < length m.seats = ltb-true _ _ both.1 in
       let has = each_has own ops m up f.apart (λ c _. f.names c) cpu below in
       let worker : WorkerMay may (worker_done own ops m cpu) = ops_may may m.area.entries (ops_of cpu ops) (alone (own cpu) (worker_at cpu m)) (r.needs cpu may below (counts cpu below)) (r.hooks cpu may below (counts cpu below), where_may may (own cpu) m.live a) in
@@ -58,7 +59,7 @@ module _ (may : Tag → Bool) where
       (λ h.
       let none : (c : ℕ) → c < length m.seats → own c key ≡ false =
       λ c below. not_owner (own c key) (λ g.
-      let same : (key_at f.after.keys key).cpu ≡ c = eqb-true _ _ (both_true (eqb (key_at f.after.keys key).round f.after.round) (eqb (key_at f.after.keys key).cpu c) g).1 in
+      let same : (key_at f.after.keys key).cpu ≡ c = eqb-true _ _ (and_parts (eqb (key_at f.after.keys key).round f.after.round) (eqb (key_at f.after.keys key).cpu c) g).1 in
       neither _ _ h (subst (λ d. own d key ≡ true) (sym same) g) (lt-ltb _ _ (subst (λ d. d < length m.seats) (sym same) below))) in
       found_may may key content m.live a (sym (unnamed own ops m up f.apart (λ c _. f.names c) key none) ∙ is)))
     where

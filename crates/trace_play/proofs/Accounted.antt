@@ -1,5 +1,5 @@
 -- What was added under a tag is what was taken away and what is live, op by op.
-use Rattle.std.proofs.Common.{◌≡◌, ℕ, zero, suc, ◌+◌, ◌-◌, ◌*◌, ◌/◌, ◌^◌, ◌<◌, Bool, true, false, cond, T, eqb, List, [], ◌++◌, length, set, get_or, Option, Some, None, IsSome, refl, sym, ap, ◌∙◌, subst, subst₂, arith, eqb-true}
+use Rattle.std.proofs.Common.{◌≡◌, ℕ, zero, suc, ◌+◌, ◌-◌, ◌*◌, ◌/◌, ◌%◌, ◌==◌, ◌^◌, ◌<◌, Bool, true, false, cond, T, IsTrue, eqb, List, [], ◌++◌, length, set, get_or, Option, Some, None, IsSome, refl, sym, ap, ◌∙◌, subst, subst₂, arith, eqb-true}
 use Rattle.std.specs.Prelude.{if◌then◌else◌}
 use Rattle.std.specs.Bool.{⊤}
 use Rattle.std.specs.Option.{option_map}
@@ -7,7 +7,7 @@ use Rattle.std.proofs.lemmas.Grind.{get_or-set_at}
 use Rattle.std.proofs.lemmas.List.Sums.{sum_by-cons, sum_by-append}
 use Rattle.std.proofs.lemmas.List.Quantifiers.{position-Some}
 use Rattle.std.proofs.lemmas.Nat.{pow_pos}
-use Rattle.std.proofs.Math.Nat.{mul_comm, mul_assoc, mul-zero, mul-one, zero-mul, suc-mul}
+use Rattle.std.proofs.Math.Nat.{mul_comm, mul_assoc, mul-zero, mul-one, zero-mul, suc-mul, mul-mod_left}
 use Rattle.tag_model.specs.declared.state.Tag.{Tag}
 use Rattle.tag_model.specs.declared.state.Held.{Held}
 use Rattle.tag_model.specs.declared.state.Held.TheVariants as held
@@ -16,6 +16,8 @@ use Rattle.tag_model.specs.declared.state.Kind.TheVariants.{Bytes, Calls}
 use Rattle.tag_model.specs.Moves.{Move}
 use Rattle.tag_model.specs.Reference.{held_counts}
 use Rattle.tag_model.specs.RefMoves.{reference_to, part_of, trimmed, open_moves, close_moves, split_moves, trim_moves, all_up, all_down}
+use Rattle.tag_model.specs.ListMachine.{LeavesSome, is_even}
+use Rattle.tag_model.proofs.OpMoves.{close_down, close_up, open_down, open_up, split_down, split_up, trim_down, trim_up}
 use Rattle.buddy.proofs.FrameLemmas.{all_within, all_at, least_told}
 use Rattle.module_area.specs.declared.entry.Entry.{Entry}
 use Rattle.page_ext.specs.Blocks.{page_bytes}
@@ -35,7 +37,7 @@ use Rattle.trace_play.specs.Alone.{rises}
 use Rattle.trace_play.specs.Fits.{entry_at, IsUnbound, HasBytes, IsBlockOf, SplitFits, SwapFits, TrimFits, OpFits}
 use Rattle.trace_play.specs.Owned.{slabs_sum, NodeSound}
 use Rattle.trace_play.proofs.Entries.{find_put, sorted_put}
-use Rattle.trace_play.proofs.KeysFit.{in_parts, bytes_of_part, content_is, order_is}
+use Rattle.trace_play.proofs.KeysFit.{bytes_in_parts, content_is, order_is}
 use Rattle.trace_play.proofs.LiveSums.{found_weight, entries_sum, sum_put, sum_without}
 use Rattle.trace_play.proofs.LiveChanges.{parts_sum, put_unbound, split_sum}
 use Rattle.trace_play.proofs.NodeLemmas.{sum_at, sum_stays, has_slab_within, no_slab_at, slabs_of_vector}
@@ -43,16 +45,10 @@ use Rattle.trace_play.proofs.NodeLemmas.{sum_at, sum_stays, has_slab_within, no_
 -- ---- the moves of one reference
 
 opened : (cpu : ℕ) (kind : Kind) (t : ℕ) (h : Held) → all_up kind t (open_moves cpu h) ≡ all_down kind t (open_moves cpu h) + held_counts kind t h
-opened cpu kind t held.None = refl
-opened cpu kind t held.Empty = refl
-opened cpu Bytes t (held.Counted tag size) = grind (arith, sum_by-cons)
-opened cpu Calls t (held.Counted tag size) = grind (arith, sum_by-cons)
+opened cpu kind t h = omega (arith, open_up cpu kind t h, open_down cpu kind t h)
 
 closed_moves : (cpu : ℕ) (kind : Kind) (t : ℕ) (h : Held) → all_down kind t (close_moves cpu h) ≡ all_up kind t (close_moves cpu h) + held_counts kind t h
-closed_moves cpu kind t held.None = refl
-closed_moves cpu kind t held.Empty = refl
-closed_moves cpu Bytes t (held.Counted tag size) = grind (arith, sum_by-cons)
-closed_moves cpu Calls t (held.Counted tag size) = grind (arith, sum_by-cons)
+closed_moves cpu kind t h = omega (arith, close_up cpu kind t h, close_down cpu kind t h)
 
 module _ (kind : Kind) (t : ℕ) where
   pub ups : (one two : List Move) → all_up kind t (one ++ two) ≡ all_up kind t one + all_up kind t two
@@ -165,46 +161,23 @@ module _ (kind : Kind) (t : ℕ) where
 
 -- ---- the moves of a split and of a trim
 
-equal_parts : (b : Bool) (parts size share : ℕ) → size ≡ parts * share → cond b size 0 ≡ parts * cond b share 0
-equal_parts true parts size share e = e
-equal_parts false parts size share e = omega (arith, mul-zero parts)
+even_parts : (parts bytes share : ℕ) (h : Held) → HasBytes bytes h → bytes ≡ share * parts → IsTrue (is_even parts h)
+even_parts parts bytes share held.None has whole = absurd has
+even_parts parts bytes share held.Empty has whole = refl
+even_parts parts bytes share (held.Counted tag size) has whole = ap (λ n. n % parts == 0) (has ∙ whole) ∙ ap (λ n. n == 0) (mul-mod_left share parts)
 
-more_calls : (b : Bool) (parts : ℕ) → 0 < parts → cond {A = ℕ} b (parts - 1) 0 + cond {A = ℕ} b 1 0 ≡ parts * cond {A = ℕ} b 1 0
-more_calls true parts some = omega (arith, some, mul-one parts)
-more_calls false parts some = omega (arith, mul-zero parts)
-
-split_moved : (cpu parts bytes : ℕ) (kind : Kind) (t : ℕ) (h : Held) → 0 < parts → HasBytes bytes h → bytes ≡ parts * (bytes / parts)
+split_moved : (cpu parts : ℕ) (kind : Kind) (t : ℕ) (h : Held) → 0 < parts → IsTrue (is_even parts h)
     → all_up kind t (split_moves cpu parts h) + held_counts kind t h ≡ all_down kind t (split_moves cpu parts h) + parts * held_counts kind t (part_of parts h)
-split_moved cpu parts bytes kind t held.None some has even = absurd has
-split_moved cpu parts bytes kind t held.Empty some has even = omega (arith, mul-zero parts)
-split_moved cpu parts bytes Bytes t (held.Counted tag size) some has even =
-    let up : all_up Bytes t (split_moves cpu parts (held.Counted tag size)) ≡ 0 = grind (arith, sum_by-cons) in
-    let down : all_down Bytes t (split_moves cpu parts (held.Counted tag size)) ≡ 0 = grind (arith, sum_by-cons) in
-    let shares = equal_parts (eqb tag.number t) parts size (size / parts) (has ∙ even ∙ sym (ap (λ n. parts * (n / parts)) has)) in
-    omega arith
-split_moved cpu parts bytes Calls t (held.Counted tag size) some has even =
-    let up : all_up Calls t (split_moves cpu parts (held.Counted tag size)) ≡ cond (eqb tag.number t) (parts - 1) 0 = grind (arith, sum_by-cons) in
-    let down : all_down Calls t (split_moves cpu parts (held.Counted tag size)) ≡ 0 = grind (arith, sum_by-cons) in
-    let shares = more_calls (eqb tag.number t) parts some in
-    omega arith
+split_moved cpu parts kind t h some even = omega (arith, split_up cpu parts kind t h some even, split_down cpu parts kind t h)
 
-less_bytes : (b : Bool) (bytes size : ℕ) → bytes < size → cond b (size - bytes) 0 + cond b bytes 0 ≡ cond b size 0
-less_bytes true bytes size low = omega arith
-less_bytes false bytes size low = refl
+leaves_some : (bytes left : ℕ) (h : Held) → HasBytes left h → bytes < left → LeavesSome bytes h
+leaves_some bytes left held.None has low = absurd has
+leaves_some bytes left held.Empty has low = tt
+leaves_some bytes left (held.Counted tag size) has low = omega (arith, has)
 
-trim_moved : (cpu bytes left : ℕ) (kind : Kind) (t : ℕ) (h : Held) → HasBytes left h → bytes < left
+trim_moved : (cpu bytes : ℕ) (kind : Kind) (t : ℕ) (h : Held) → LeavesSome bytes h
     → held_counts kind t (trimmed bytes h) + all_down kind t (trim_moves cpu bytes h) ≡ held_counts kind t h + all_up kind t (trim_moves cpu bytes h)
-trim_moved cpu bytes left kind t held.None has low = absurd has
-trim_moved cpu bytes left kind t held.Empty has low = refl
-trim_moved cpu bytes left Bytes t (held.Counted tag size) has low =
-    let up : all_up Bytes t (trim_moves cpu bytes (held.Counted tag size)) ≡ 0 = grind (arith, sum_by-cons) in
-    let down : all_down Bytes t (trim_moves cpu bytes (held.Counted tag size)) ≡ cond (eqb tag.number t) bytes 0 = grind (arith, sum_by-cons) in
-    let less = less_bytes (eqb tag.number t) bytes size (omega (arith, has)) in
-    omega arith
-trim_moved cpu bytes left Calls t (held.Counted tag size) has low =
-    let up : all_up Calls t (trim_moves cpu bytes (held.Counted tag size)) ≡ 0 = grind (arith, sum_by-cons) in
-    let down : all_down Calls t (trim_moves cpu bytes (held.Counted tag size)) ≡ 0 = grind (arith, sum_by-cons) in
-    omega arith
+trim_moved cpu bytes kind t h some = omega (arith, trim_up cpu bytes kind t h, trim_down cpu bytes kind t h some)
 
 -- ---- an op
 
@@ -271,16 +244,10 @@ module _ (kind : Kind) (t rest : ℕ) where
   parts_count cpu order whole (Nothing of) below is = ap (λ n. 0 + n) (sym (same_share 0 (parts_in order whole) 0 ∙ mul-zero (parts_in order whole)))
   parts_count cpu order whole (Stored (Pages block)) below is =
       let parts = parts_in order whole in
-      let bytes = 4096 * 2 ^ whole in
-      let share : bytes / parts ≡ 4096 * 2 ^ order = bytes_of_part whole order below in
-      let even : bytes ≡ parts * (bytes / parts) = shuffle 4096 parts (2 ^ order) (2 ^ whole) (in_parts whole order below) ∙ ap (λ n. parts * n) (sym share) in
-      let moved = split_moved cpu parts bytes kind t block.holds (pow_pos (whole - order)) is.1 even in
+      let moved = split_moved cpu parts kind t block.holds (pow_pos (whole - order)) (even_parts parts (4096 * 2 ^ whole) (4096 * 2 ^ order) block.holds is.1 (bytes_in_parts whole order below)) in
       let same : parts_sum (λ place. counts (part_in order place (Stored (Pages block)))) 0 parts ≡ parts * held_counts kind t (part_of parts block.holds) =
       same_share (held_counts kind t (part_of (parts_in order block.order) block.holds)) parts 0 ∙ ap (λ n. parts * held_counts kind t (part_of (parts_in order n) block.holds)) is.0 in
       omega arith
-    where
-      shuffle : (a b c d : ℕ) → d ≡ b * c → a * d ≡ b * (a * c)
-      shuffle a b c d e = ap (λ n. a * n) e ∙ sym (mul_assoc a b c) ∙ ap (λ n. n * c) (mul_comm a b) ∙ mul_assoc b a c
   parts_count cpu order whole (Stored (Object home frame place vector holds)) below is = absurd is
   parts_count cpu order whole (Stored (Uncounted home frame place)) below is = absurd is
 
@@ -350,7 +317,7 @@ module _ (kind : Kind) (t rest : ℕ) where
   trim_counts : (cpu bytes order left : ℕ) (content : Content) → IsBlockOf order left content → bytes < left
       → counts (with_held (trimmed bytes) content) + all_down kind t (trim_moves cpu bytes (held_of content)) ≡ counts content + all_up kind t (trim_moves cpu bytes (held_of content))
   trim_counts cpu bytes order left (Nothing of) is low = refl
-  trim_counts cpu bytes order left (Stored (Pages block)) is low = trim_moved cpu bytes left kind t block.holds is.1 low
+  trim_counts cpu bytes order left (Stored (Pages block)) is low = trim_moved cpu bytes kind t block.holds (leaves_some bytes left block.holds is.1 low)
   trim_counts cpu bytes order left (Stored (Object home frame place vector holds)) is low = absurd is
   trim_counts cpu bytes order left (Stored (Uncounted home frame place)) is low = absurd is
 

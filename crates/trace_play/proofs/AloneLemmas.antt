@@ -2,7 +2,7 @@
 use Rattle.std.proofs.Common.{◌≡◌, ℕ, zero, suc, ◌+◌, ◌-◌, Bool, true, false, not, T, eqb, List, [], ◌∷◌, ◌++◌, Option, Some, None, unwrap_or, refl, sym, ap, ◌∙◌, subst, append_assoc, append-nil, add-zero, arith, eqb-true, ne_eqb}
 use Rattle.std.proofs.Math.Nat.{add_assoc}
 use Rattle.std.proofs.lemmas.Nat.{pow_pos}
-use Rattle.std.proofs.lemmas.Bool.{cond-true, cond-false}
+use Rattle.std.proofs.lemmas.Bool.{cond-true, cond-false, and_from, and_parts}
 use Rattle.std.specs.Prelude.{fold, ◌&&◌, ◌<◌, ◌*◌, if◌then◌else◌}
 use Rattle.std.specs.List.{list_all, range_with_len}
 use Rattle.tag_model.specs.Moves.{Move}
@@ -19,10 +19,6 @@ use Rattle.trace_play.specs.Live.{Content, Nothing, Stored, Live, content_at, pu
 use Rattle.trace_play.specs.Worker.{Seat, Tally, WorkerState, with_moves, with_live, with_node, allocated, is_home, given_back, freed, split, trim, one_given, with_taken, sent_home, done, all_done}
 use Rattle.trace_play.specs.Alone.{rises, kept, named_by, names_only, alone, joined, put_all, others, rejoined}
 use Rattle.trace_play.proofs.Entries.{kept_put, dropped_put, kept_kept, kept_within, find_kept, sorted_put, sorted_kept, rejoins}
-
-pub both_true : (a b : Bool) → (a && b) ≡ true → (a ≡ true) × (b ≡ true)
-both_true true b e = (refl, e)
-both_true false b e = let no : ⊥ = cc in absurd no
 
 pub holds : {b : Bool} → b ≡ true → T b
 holds e = subst T (sym e) tt
@@ -63,18 +59,14 @@ others_stay {mine} before after (takes key is rest) r =
 
 -- ---- a split's keys
 
-and_true : (a b : Bool) → a ≡ true → b ≡ true → (a && b) ≡ true
-and_true true b p q = q
-and_true false b p q = let no : ⊥ = cc in absurd no
-
 -- the keys of the parts but the first are the new ones
 parts_named : (mine : ℕ → Bool) (key first count from new : ℕ) → 0 < from → new ≡ first + from - 1 → list_all mine (range_with_len new count) ≡ true
     → list_all (λ place. mine (part_key key first place)) (range_with_len from count) ≡ true
 parts_named mine key first zero from new above is all = refl
 parts_named mine key first (suc count) from new above is all =
-    let here = both_true (mine new) (list_all mine (range_with_len (new + 1) count)) all in
+    let here = and_parts (mine new) (list_all mine (range_with_len (new + 1) count)) all in
     let later : part_key key first from ≡ new = cond-false (eqb from 0) key (first + from - 1) (ne_eqb from 0 (λ e. omega arith)) ∙ sym is in
-    and_true (mine (part_key key first from)) (list_all (λ place. mine (part_key key first place)) (range_with_len (from + 1) count))
+    and_from (mine (part_key key first from)) (list_all (λ place. mine (part_key key first place)) (range_with_len (from + 1) count))
     (ap mine later ∙ here.0)
     (parts_named mine key first count (from + 1) (new + 1) (omega arith) (omega arith) here.1)
 
@@ -83,8 +75,8 @@ all_parts : (mine : ℕ → Bool) (key first parts : ℕ) → 0 < parts → list
 all_parts mine key first zero above all = absurd (omega arith)
 all_parts mine key first (suc more) above all =
     let less : suc more - 1 ≡ more = omega arith in
-    let named = both_true (mine key) (list_all mine (range_with_len first (suc more - 1))) all in
-    and_true (mine key) (list_all (λ place. mine (part_key key first place)) (range_with_len 1 more))
+    let named = and_parts (mine key) (list_all mine (range_with_len first (suc more - 1))) all in
+    and_from (mine key) (list_all (λ place. mine (part_key key first place)) (range_with_len 1 more))
     named.0
     (parts_named mine key first more 1 first (omega arith) (omega arith) (subst (λ n. list_all mine (range_with_len first n) ≡ true) less named.1))
 
@@ -108,19 +100,19 @@ module _ (mine : ℕ → Bool) where
       → Touches mine live (fold (λ parts place. put (part_key key first place) (part place) parts) live places)
   puts_parts key first part [] live all = not_any
   puts_parts key first part (place ∷ places) live all =
-      let here = both_true (mine (part_key key first place)) (list_all (λ place. mine (part_key key first place)) places) all in
+      let here = and_parts (mine (part_key key first place)) (list_all (λ place. mine (part_key key first place)) places) all in
       puts (part_key key first place) (part place) here.0 (puts_parts key first part places (put (part_key key first place) (part place) live) here.1)
 
   kept_parts : (key first : ℕ) (part : ℕ → Content) (places : List ℕ) (live : Live) → T (rises live) → list_all (λ place. mine (part_key key first place)) places ≡ true
       → kept mine (fold (λ parts place. put (part_key key first place) (part place) parts) live places) ≡ fold (λ parts place. put (part_key key first place) (part place) parts) (kept mine live) places
   kept_parts key first part [] live r all = refl
   kept_parts key first part (place ∷ places) live r all =
-      let here = both_true (mine (part_key key first place)) (list_all (λ place. mine (part_key key first place)) places) all in
+      let here = and_parts (mine (part_key key first place)) (list_all (λ place. mine (part_key key first place)) places) all in
       kept_parts key first part places (put (part_key key first place) (part place) live) (sorted_put (part_key key first place) (part place) live r) here.1
       ∙ ap (λ now. fold (λ parts place. put (part_key key first place) (part place) parts) now places) (kept_put mine (part_key key first place) (part place) live r here.0)
 
   one_named : (key : ℕ) → list_all mine (key ∷ []) ≡ true → mine key ≡ true
-  one_named key all = (both_true (mine key) true all).0
+  one_named key all = (and_parts (mine key) true all).0
 
   swap_touches : (one two : ℕ) (live : Live) → mine one ≡ true → mine two ≡ true → (a b : Bool) (left right : Content) → Touches mine live (if a then live else (if b then live else put one left (put two right live)))
   swap_touches one two live is also true b left right = not_any
@@ -139,7 +131,7 @@ module _ (mine : ℕ → Bool) where
   touches entries (op.Free key) w all = subst (λ (live : Live). Touches mine w.live live) (sym (freed_live (content_at key w.live) _)) (takes key (one_named key all) not_any)
   touches entries (op.Split key order first) w all = puts_parts key first _ _ w.live (all_parts mine key first (parts_in order (order_of (content_at key w.live))) (pow_pos _) all)
   touches entries (op.Swap one two) w all =
-      let names = both_true (mine one) (list_all mine (two ∷ [])) all in
+      let names = and_parts (mine one) (list_all mine (two ∷ [])) all in
       swap_touches one two w.live names.0 (one_named two names.1) (is_nothing (content_at one w.live)) (is_nothing (content_at two w.live)) _ _
   touches entries (op.Trim key pages) w all = puts key _ (one_named key all) not_any
   touches entries (op.Hook section index) w all = not_any
@@ -153,7 +145,7 @@ module _ (mine : ℕ → Bool) where
 pub all_touch : (mine : ℕ → Bool) (entries : List Entry) (ops : List TraceOp) (w : WorkerState) → names_only mine entries ops w ≡ true → Touches mine w.live (all_done entries ops w).live
 all_touch mine entries [] w all = not_any
 all_touch mine entries (what ∷ ops) w all =
-    let here = both_true (list_all mine (named_by w.live what)) (names_only mine entries ops (done entries what w)) all in
+    let here = and_parts (list_all mine (named_by w.live what)) (names_only mine entries ops (done entries what w)) all in
     then_touch mine w.live (done entries what w).live (all_done entries ops (done entries what w)).live (touches mine entries what w here.0) (all_touch mine entries ops (done entries what w) here.1)
   where
     then_touch : (mine : ℕ → Bool) (one two three : Live) → Touches mine one two → Touches mine two three → Touches mine one three
@@ -224,7 +216,7 @@ module _ (mine : ℕ → Bool) (seat : Seat) (live : Live) (before tally : Tally
   split_same : (key order first : ℕ) → list_all mine (named_by live (op.Split key order first)) ≡ true → own_part mine (split key order first among) ≡ after before (split key order first own)
   split_same key order first all =
       let cpu = seat.node.node.cpu in
-      let is = (both_true (mine key) (list_all mine (range_with_len first (parts_in order (order_of (content_at key live)) - 1))) all).0 in
+      let is = (and_parts (mine key) (list_all mine (range_with_len first (parts_in order (order_of (content_at key live)) - 1))) all).0 in
       let into = λ (content : Content) (now : Live). fold (λ parts place. put (part_key key first place) (part_in order place content) parts) now (range_with_len 0 (parts_in order (order_of content))) in
       let as_own = λ (content : Content). after before (with_moves (split_moves cpu (parts_in order (order_of content)) (held_of content)) (with_live (into content (kept mine live)) own)) in
       whole refl
@@ -263,7 +255,7 @@ module _ (mine : ℕ → Bool) (seat : Seat) (live : Live) (before tally : Tally
   step_same entries (op.Free key) all = freed_same key (one_named mine key all)
   step_same entries (op.Split key order first) all = split_same key order first all
   step_same entries (op.Swap one two) all =
-      let names = both_true (mine one) (list_all mine (two ∷ [])) all in
+      let names = and_parts (mine one) (list_all mine (two ∷ [])) all in
       swap_same one two names.0 (one_named mine two names.1)
   step_same entries (op.Trim key pages) all = trim_same key (pages * 4096) (one_named mine key all)
   step_same entries (op.Hook section index) all = refl
@@ -317,7 +309,7 @@ module _ (mine : ℕ → Bool) (entries : List Entry) (before : Tally) where
   all_among : (ops : List TraceOp) (w v : WorkerState) → T (rises w.live) → IsAmong w v → names_only mine entries ops w ≡ true → IsAmong (all_done entries ops w) (all_done entries ops v)
   all_among [] w v r e all = e
   all_among (what ∷ ops) w v r e all =
-      let here = both_true (list_all mine (named_by w.live what)) (names_only mine entries ops (done entries what w)) all in
+      let here = and_parts (list_all mine (named_by w.live what)) (names_only mine entries ops (done entries what w)) all in
       all_among ops (done entries what w) (done entries what v) (next_rises what w r here.0) (step_among what w v r e here.0) here.1
 
   and_agree : (a b x y : Bool) → a ≡ b → (b ≡ true → x ≡ y) → (a && x) ≡ (b && y)

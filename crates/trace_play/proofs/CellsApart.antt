@@ -3,6 +3,7 @@ use Rattle.std.proofs.Common.{◌≡◌, ◌≢◌, ℕ, zero, suc, ◌+◌, ◌
 use Rattle.std.specs.Prelude.{◌&&◌, sum_by, count_by}
 use Rattle.std.specs.List.{flat_map, enumerate_from}
 use Rattle.std.proofs.lemmas.List.Sums.{sum_by-cons, sum_by-append, sum_by-le-sum_by}
+use Rattle.std.proofs.lemmas.Bool.{and_parts, and_from}
 use Rattle.tag_model.specs.declared.state.Held.{Held}
 use Rattle.tag_model.specs.declared.state.Kind.{Kind}
 use Rattle.tag_model.specs.Index.{Slot, Word, Page, Object}
@@ -15,7 +16,7 @@ use Rattle.trace_play.specs.Worker.{Seat}
 use Rattle.trace_play.specs.Machine.{Machine, fresh_seat, seat_at, content_cell, slab_cell, slab_cells}
 use Rattle.trace_play.specs.Owned.{one_if, is_in, has_frame, has_cell_of, is_taken, same_vector, slab_has_frame, slab_has_vector, slab_has_cell, slabs_sum}
 use Rattle.trace_play.specs.Sound.{content_weight, live_sum, storage_sum, is_away, IsSound, same_slot, references_in}
-use Rattle.trace_play.proofs.NodeLemmas.{both_hold, starts_in, same_number, by_test}
+use Rattle.trace_play.proofs.NodeLemmas.{starts_in, same_number, by_test}
 
 -- ---- counts
 
@@ -53,16 +54,12 @@ one_of : (b : Bool) → cond {A = ℕ} b 1 0 ≤ one_if b
 one_of true = omega arith
 one_of false = omega arith
 
-also_true : (a b : Bool) → a ≡ true → b ≡ true → (a && b) ≡ true
-also_true true b p q = q
-also_true false b p q = let no : ⊥ = cc in absurd no
-
 page_one : (h f : ℕ) (content : Content) → count_by (in_slot (Page h f)) (content_cell content) ≤ content_weight (has_frame h f) content
 page_one h f (Nothing order) = omega arith
 page_one h f (Stored (storage.Pages block)) =
     let le = one_le (eqb h block.home && eqb f block.frame) (eqb block.home h && is_in f block.frame block.order)
-    (λ e. let b = both_hold (eqb h block.home) (eqb f block.frame) e in
-    also_true (eqb block.home h) (is_in f block.frame block.order) (ap (λ n. eqb block.home n) (eqb-true h block.home b.0) ∙ same_number block.home) (ap (λ n. is_in n block.frame block.order) (eqb-true f block.frame b.1) ∙ starts_in block.frame block.order)) in
+    (λ e. let b = and_parts (eqb h block.home) (eqb f block.frame) e in
+    and_from (eqb block.home h) (is_in f block.frame block.order) (ap (λ n. eqb block.home n) (eqb-true h block.home b.0) ∙ same_number block.home) (ap (λ n. is_in n block.frame block.order) (eqb-true f block.frame b.1) ∙ starts_in block.frame block.order)) in
     let c = one_of (eqb h block.home && eqb f block.frame) in
     omega arith
 page_one h f (Stored (storage.Object home frame place vector holds)) = omega arith
@@ -73,8 +70,8 @@ object_one h v p (Nothing order) = omega arith
 object_one h v p (Stored (storage.Pages block)) = omega arith
 object_one h v p (Stored (storage.Object home frame place vector holds)) =
     let le = one_le (eqb h home && (eqb v vector && eqb p place)) (eqb home h && (eqb place p && eqb v vector))
-    (λ e. let b = both_hold (eqb h home) (eqb v vector && eqb p place) e in let c = both_hold (eqb v vector) (eqb p place) b.1 in
-    also_true (eqb home h) (eqb place p && eqb v vector) (ap (λ n. eqb home n) (eqb-true h home b.0) ∙ same_number home) (also_true (eqb place p) (eqb v vector) (ap (λ n. eqb place n) (eqb-true p place c.1) ∙ same_number place) c.0)) in
+    (λ e. let b = and_parts (eqb h home) (eqb v vector && eqb p place) e in let c = and_parts (eqb v vector) (eqb p place) b.1 in
+    and_from (eqb home h) (eqb place p && eqb v vector) (ap (λ n. eqb home n) (eqb-true h home b.0) ∙ same_number home) (and_from (eqb place p) (eqb v vector) (ap (λ n. eqb place n) (eqb-true p place c.1) ∙ same_number place) c.0)) in
     let c = one_of (eqb h home && (eqb v vector && eqb p place)) in
     omega arith
 object_one h v p (Stored (storage.Uncounted home frame place)) = omega arith
@@ -89,7 +86,7 @@ word_one a t kind (Stored (storage.Uncounted home frame place)) = omega arith
 frame_away : (h f count : ℕ) (given : Storage) → count ≤ h → has_frame h f given ≤ is_away count given
 frame_away h f count (storage.Pages block) high =
     one_le (eqb block.home h && is_in f block.frame block.order) (not (ltb block.home count))
-    (λ e. let b = both_hold (eqb block.home h) (is_in f block.frame block.order) e in let same = eqb-true block.home h b.0 in not_below block.home count (omega arith))
+    (λ e. let b = and_parts (eqb block.home h) (is_in f block.frame block.order) e in let same = eqb-true block.home h b.0 in not_below block.home count (omega arith))
   where
     not_below : (a b : ℕ) → b ≤ a → not (ltb a b) ≡ true
     not_below a b low = by_test (ltb a b) (λ t. let l = ltb-true a b t in absurd (omega arith)) (λ t. ap not t)
@@ -100,7 +97,7 @@ cell_away : (h v p count : ℕ) (given : Storage) → count ≤ h → has_cell_o
 cell_away h v p count (storage.Pages block) high = omega arith
 cell_away h v p count (storage.Object home frame place vector holds) high =
     one_le (eqb home h && (eqb place p && eqb v vector)) (not (ltb home count))
-    (λ e. let b = both_hold (eqb home h) (eqb place p && eqb v vector) e in let same = eqb-true home h b.0 in not_below home count (omega arith))
+    (λ e. let b = and_parts (eqb home h) (eqb place p && eqb v vector) e in let same = eqb-true home h b.0 in not_below home count (omega arith))
   where
     not_below : (a b : ℕ) → b ≤ a → not (ltb a b) ≡ true
     not_below a b low = by_test (ltb a b) (λ t. let l = ltb-true a b t in absurd (omega arith)) (λ t. ap not t)
@@ -126,7 +123,7 @@ no_weight (e ∷ live) = sum_by-cons (λ (x : ℕ × Content). content_weight (�
 slab_one : (h f cpu start : ℕ) (slab : Option Slab) → count_by (in_slot (Page h f)) (slab_cell cpu start slab) ≤ slab_has_frame f start slab
 slab_one h f cpu start None = omega arith
 slab_one h f cpu start (Some slab) =
-    let le = one_le (eqb h cpu && eqb f start) (is_in f start (slab_order slab.class)) (λ e. let b = both_hold (eqb h cpu) (eqb f start) e in ap (λ n. is_in n start (slab_order slab.class)) (eqb-true f start b.1) ∙ starts_in start (slab_order slab.class)) in
+    let le = one_le (eqb h cpu && eqb f start) (is_in f start (slab_order slab.class)) (λ e. let b = and_parts (eqb h cpu) (eqb f start) e in ap (λ n. is_in n start (slab_order slab.class)) (eqb-true f start b.1) ∙ starts_in start (slab_order slab.class)) in
     let c = one_of (eqb h cpu && eqb f start) in
     omega arith
 
@@ -150,7 +147,7 @@ slabs_zero f none (slab ∷ slabs) from = let a = none from slab in let b = slab
 
 cell_in_slab : (v p start : ℕ) (slab : Option Slab) → slab_has_cell v p start slab ≤ slab_has_vector v start slab
 cell_in_slab v p start None = omega arith
-cell_in_slab v p start (Some slab) = one_le (is_taken p slab && same_vector (Some v) slab.vector) (same_vector (Some v) slab.vector) (λ e. (both_hold (is_taken p slab) (same_vector (Some v) slab.vector) e).1)
+cell_in_slab v p start (Some slab) = one_le (is_taken p slab && same_vector (Some v) slab.vector) (same_vector (Some v) slab.vector) (λ e. (and_parts (is_taken p slab) (same_vector (Some v) slab.vector) e).1)
 
 other_slot : (slot : Slot) (cpu start : ℕ) (slab : Option Slab) → ((held : Held) → same_slot slot (Page cpu start) ≡ false) → count_by (in_slot slot) (slab_cell cpu start slab) ≡ 0
 other_slot slot cpu start None differ = refl

@@ -215,9 +215,9 @@ found_there k slot held (x ∷ xs) (suc i) is are few e =
 -- ---- how large nodes are
 
 -- as many slots for slabs and as many vectors
-record SameSize (before now : NodeState) : Type 0 where
-  slabs : length now.slabs ≡ length before.slabs
-  vectors : length now.vectors ≡ length before.vectors
+pub record SameSize (before now : NodeState) : Type 0 where
+  pub slabs : length now.slabs ≡ length before.slabs
+  pub vectors : length now.vectors ≡ length before.vectors
 
 same_size : (node : NodeState) → SameSize node node
 same_size node = record { slabs = refl; vectors = refl }
@@ -232,7 +232,7 @@ vector_size out (Some v) node = record { slabs = refl; vectors = length-set node
 slab_size : (frame : ℕ) (slab : Option Slab) (node : NodeState) → SameSize node (with_slab frame slab node)
 slab_size frame slab node = record { slabs = length-set node.slabs frame slab; vectors = refl }
 
-abbrev MaybeSize : NodeState → Option Given → Type 0
+abbrev pub MaybeSize : NodeState → Option Given → Type 0
 MaybeSize node None = ⊤
 MaybeSize node (Some given) = SameSize node given.node
 
@@ -243,7 +243,7 @@ block_size tag order node = by (start_in order node)
     by None = tt
     by (Some start) = record { slabs = refl; vectors = refl }
 
-object_size : (tag : Option Tag) (size : ℕ) (node : NodeState) → MaybeSize node (given_object tag size node)
+pub object_size : (tag : Option Tag) (size : ℕ) (node : NodeState) → MaybeSize node (given_object tag size node)
 object_size tag size node = by (class_of size)
   where
     by_start : (class : ℕ) (start : Option ℕ) → MaybeSize node (option_map (object_from_new tag class node) start)
@@ -276,7 +276,7 @@ place_size frame place node (Some slab) = by (is_used (with_place false place sl
         let gone = with_pages false frame (slab_order slab.class) (with_slab frame None node) in
         size_then node gone _ (record { slabs = length-set node.slabs frame None; vectors = refl }) (vector_size false slab.vector gone)
 
-home_size : (given : Storage) (node : NodeState) → SameSize node (come_home given node).node
+pub home_size : (given : Storage) (node : NodeState) → SameSize node (come_home given node).node
 home_size (storage.Pages block) node = record { slabs = refl; vectors = refl }
 home_size (storage.Object home frame place vector holds) node = place_size frame place node (slab_at frame node)
 home_size (storage.Uncounted home frame place) node = place_size frame place node (slab_at frame node)

@@ -43,9 +43,10 @@ one_of_two true None = refl
 one_of_two true (Some x) = refl
 one_of_two false o = refl
 
-or_put : {A : Type 0} (b : Bool) (v : A) (later into : Option A) → (b ≡ true → later ≡ None) → option_or later (cond b (Some v) into) ≡ option_or (cond b (Some v) later) into
-or_put true v later into h = ap (λ o. option_or o (Some v)) (h refl)
-or_put false v later into h = refl
+-- what is put at a key before or behind the others, which don't have it
+pub before_or_behind : {A : Type 0} (b : Bool) (v : A) (others into : Option A) → (b ≡ true → others ≡ None) → option_or others (cond b (Some v) into) ≡ option_or (cond b (Some v) others) into
+before_or_behind true v others into none = ap (λ o. option_or o (Some v)) (none refl)
+before_or_behind false v others into none = refl
 
 module _ {X : Type 0} where
   -- the entries, with those of another list put in
@@ -110,7 +111,7 @@ module _ {X : Type 0} where
   find_put_all q into (e ∷ es) rises =
       find_put_all q (put nat_cmp e.0 e.1 into) es (second_true _ _ rises)
       ∙ ap (option_or (find nat_cmp q es)) (find-put nat_cmp nat_cmp_total q e.0 e.1 into)
-      ∙ or_put (is_eq (nat_cmp q e.0)) e.1 (find nat_cmp q es) (find nat_cmp q into)
+      ∙ before_or_behind (is_eq (nat_cmp q e.0)) e.1 (find nat_cmp q es) (find nat_cmp q into)
       (λ t. find_below q es (subst (λ k. T (below_all nat_cmp k es)) (sym (eqb-true q e.0 (sym (unsigned_tied q e.0) ∙ t))) (first_true _ _ rises)))
 
   pub sorted_put_all : (into es : List (ℕ × X)) → T (is_sorted nat_cmp into) → T (is_sorted nat_cmp (put_all into es))

@@ -2,7 +2,7 @@
 use Rattle.std.proofs.Common.{◌≡◌, ◌≢◌, ℕ, ◌-◌, ◌<◌, Bool, true, false, cond, not, ◌||◌, eqb, List, [], ◌∷◌, ◌++◌, length, map, set, drop, take, Option, Some, None, Ok, All, refl, sym, ap, ◌∙◌, subst, subst₂, arith, eqb-true, ne_eqb, eq-eqb}
 use Rattle.std.specs.Prelude.{◌&&◌, IsTrue}
 use Rattle.std.specs.List.{list_any, filter}
-use Rattle.std.proofs.lemmas.Bool.{eqb-false}
+use Rattle.std.proofs.lemmas.Bool.{eqb-false, or_left, or_right}
 use Rattle.std.proofs.lemmas.Grind.{get_or-set_at}
 use Rattle.std.proofs.lemmas.List.{length-set, length-append, get_or-set_other}
 use Rattle.std.proofs.lemmas.List.Elements.{All-head, All-tail}
@@ -38,14 +38,6 @@ pub either_or : (a b : Bool) → (a || b) ≡ true → (a ≡ false → b ≡ tr
 either_or true b e g = let no : ⊥ = cc in absurd no
 either_or false b e g = e
 
-pub or_l : (a b : Bool) → a ≡ true → (a || b) ≡ true
-or_l true b e = refl
-or_l false b e = let no : ⊥ = cc in absurd no
-
-pub or_r : (a b : Bool) → b ≡ true → (a || b) ≡ true
-or_r true b e = refl
-or_r false b e = e
-
 abbrev is_among : List ℕ → ℕ → Bool
 is_among sections section = list_any (λ other. eqb other section) sections
 
@@ -54,8 +46,8 @@ hooks_map sections tags f none_out = none_out
 hooks_map sections tags f (one_more before others section tag hook rest) =
     let append = λ (x : ℕ). list_any-append (λ other. eqb other x) before (section ∷ []) in
     one_more before others section tag
-    (f section tag (append section ∙ or_r (is_among before section) (is_among (section ∷ []) section) (or_l (eqb section section) false (eq-eqb section section refl))) hook)
-    (hooks_map before others (λ x y e h. f x y (append x ∙ or_l (is_among before x) (is_among (section ∷ []) x) e) h) rest)
+    (f section tag (append section ∙ or_right (is_among before section) (is_among (section ∷ []) section) (or_left (eqb section section) false (eq-eqb section section refl))) hook)
+    (hooks_map before others (λ x y e h. f x y (append x ∙ or_left (is_among before x) (is_among (section ∷ []) x) e) h) rest)
 
 pub hooks_long : {Hook : ℕ → Tag → Type 0} (sections : List ℕ) (tags : List Tag) → HooksAre Hook sections tags → length tags ≡ length sections
 hooks_long sections tags none_out = refl
@@ -135,8 +127,8 @@ inside_less section other (x ∷ xs) e = by (eqb x other) e (inside_less section
   where
     by : (b : Bool) → list_any (λ y. eqb y section) (cond (not b) (x ∷ filter (λ y. not (eqb y other)) xs) (filter (λ y. not (eqb y other)) xs)) ≡ true
         → (list_any (λ y. eqb y section) (filter (λ y. not (eqb y other)) xs) ≡ true → list_any (λ y. eqb y section) xs ≡ true) → (eqb x section || list_any (λ y. eqb y section) xs) ≡ true
-    by true h rest = or_r (eqb x section) (list_any (λ y. eqb y section) xs) (rest h)
-    by false h rest = by_bool {P = (eqb x section || list_any (λ y. eqb y section) xs) ≡ true} (eqb x section) (λ t. or_l (eqb x section) _ t) (λ t. or_r (eqb x section) _ (rest (either_or (eqb x section) _ h t)))
+    by true h rest = or_right (eqb x section) (list_any (λ y. eqb y section) xs) (rest h)
+    by false h rest = by_bool {P = (eqb x section || list_any (λ y. eqb y section) xs) ≡ true} (eqb x section) (λ t. or_left (eqb x section) _ t) (λ t. or_right (eqb x section) _ (rest (either_or (eqb x section) _ h t)))
 
 inside_kept : (section other : ℕ) (xs : List ℕ) → section ≢ other → list_any (λ x. eqb x section) xs ≡ true → list_any (λ x. eqb x section) (filter (λ x. not (eqb x other)) xs) ≡ true
 inside_kept section other [] differ e = e
@@ -145,7 +137,7 @@ inside_kept section other (x ∷ xs) differ e = by (eqb x other) refl (inside_ke
     by : (b : Bool) → eqb x other ≡ b → (list_any (λ y. eqb y section) xs ≡ true → list_any (λ y. eqb y section) (filter (λ y. not (eqb y other)) xs) ≡ true)
         → list_any (λ y. eqb y section) (cond (not b) (x ∷ filter (λ y. not (eqb y other)) xs) (filter (λ y. not (eqb y other)) xs)) ≡ true
     by true t rest = rest (either_or (eqb x section) _ e (ne_eqb x section (λ h. differ (sym h ∙ eqb-true x other t))))
-    by false t rest = by_bool {P = (eqb x section || list_any (λ y. eqb y section) (filter (λ y. not (eqb y other)) xs)) ≡ true} (eqb x section) (λ s. or_l (eqb x section) _ s) (λ s. or_r (eqb x section) _ (rest (either_or (eqb x section) _ e s)))
+    by false t rest = by_bool {P = (eqb x section || list_any (λ y. eqb y section) (filter (λ y. not (eqb y other)) xs)) ≡ true} (eqb x section) (λ s. or_left (eqb x section) _ s) (λ s. or_right (eqb x section) _ (rest (either_or (eqb x section) _ e s)))
 
 -- ---- a CPU's ops
 
@@ -189,7 +181,7 @@ module _ (trace : Trace) (entries : List Entry) (cpu : ℕ) (ok : ℕ → Bool) 
       let old = cpu_at here.cpus cpu in
       let long = hooks_long old.hooks w.seat.hooks s.hooks in
       let allowed : (eqb section 0 || ok section) ≡ true =
-      by_bool {P = (eqb section 0 || ok section) ≡ true} (eqb section 0) (λ e. or_l (eqb section 0) _ e) (λ e. or_r (eqb section 0) _ (s.inside section (either_or (eqb section 0) _ t.may e))) in (
+      by_bool {P = (eqb section 0 || ok section) ≡ true} (eqb section 0) (λ e. or_left (eqb section 0) _ e) (λ e. or_right (eqb section 0) _ (s.inside section (either_or (eqb section 0) _ t.may e))) in (
         (let few = t.few in omega arith, may section index allowed is.1),
         own_state here next (done entries (op.Hook section index) w) (record { hooks = old.hooks ++ section ∷ []; inside = old.inside }) low s.long t.cpus_are
             (one_more old.hooks w.seat.hooks section (tag_in entries section index) (record { index = index; low = is.1; is = refl; may = t.may })
@@ -214,8 +206,8 @@ module _ (trace : Trace) (entries : List Entry) (cpu : ℕ) (ok : ℕ → Bool) 
               low = h.low;
               is = h.is;
               may =
-                  by_bool {P = (eqb x 0 || list_any (λ z. eqb z x) (old.inside ++ section ∷ [])) ≡ true} (eqb x 0) (λ f. or_l (eqb x 0) _ f)
-                  (λ f. or_r (eqb x 0) _ (list_any-append (λ z. eqb z x) old.inside (section ∷ []) ∙ or_l (list_any (λ z. eqb z x) old.inside) _ (either_or (eqb x 0) _ h.may f)));
+                  by_bool {P = (eqb x 0 || list_any (λ z. eqb z x) (old.inside ++ section ∷ [])) ≡ true} (eqb x 0) (λ f. or_left (eqb x 0) _ f)
+                  (λ f. or_right (eqb x 0) _ (list_any-append (λ z. eqb z x) old.inside (section ∷ []) ∙ or_left (list_any (λ z. eqb z x) old.inside) _ (either_or (eqb x 0) _ h.may f)));
             })
             s.hooks)
             (λ x e. by_bool {P = ok x ≡ true} (is_inside x old) (λ f. s.inside x f) (λ f. entering x (eq-eqb section x (inside_more x section old.inside e f)))),
@@ -230,8 +222,8 @@ module _ (trace : Trace) (entries : List Entry) (cpu : ℕ) (ok : ℕ → Bool) 
               low = h.low;
               is = h.is;
               may =
-                  by_bool {P = (eqb x 0 || list_any (λ z. eqb z x) (filter (λ z. not (eqb z section)) old.inside)) ≡ true} (eqb x 0) (λ f. or_l (eqb x 0) _ f)
-                  (λ f. or_r (eqb x 0) _ (inside_kept x section old.inside (λ same. let no : ⊥ = cc (ap (is_among old.hooks) same, e, t.none) in no) (either_or (eqb x 0) _ h.may f)));
+                  by_bool {P = (eqb x 0 || list_any (λ z. eqb z x) (filter (λ z. not (eqb z section)) old.inside)) ≡ true} (eqb x 0) (λ f. or_left (eqb x 0) _ f)
+                  (λ f. or_right (eqb x 0) _ (inside_kept x section old.inside (λ same. let no : ⊥ = cc (ap (is_among old.hooks) same, e, t.none) in no) (either_or (eqb x 0) _ h.may f)));
             })
             s.hooks)
             (λ x e. s.inside x (inside_less x section old.inside e)),
@@ -250,11 +242,11 @@ module _ (trace : Trace) (entries : List Entry) (cpu : ℕ) (ok : ℕ → Bool) 
       let first = first_line on ops here after e in
       let next = first.0 in
       let told = cpu_told on.cpu on.op here next first.1 in
-      let later = λ (section : ℕ) (h : list_any (λ (x : OnOp). eqb x.cpu cpu && enters section x.op) ops ≡ true). entering section (or_r (eqb on.cpu cpu && enters section on.op) _ h) in
+      let later = λ (section : ℕ) (h : list_any (λ (x : OnOp). eqb x.cpu cpu && enters section x.op) ops ≡ true). entering section (or_right (eqb on.cpu cpu && enters section on.op) _ h) in
       by (eqb on.cpu cpu)
       (λ same.
       let step = own_line may_count may low on.op here next w (All-head (IsFormedOn trace.cpus trace.sections) on ops are).1 (subst (λ c. CpuTold c on.op here next) (eqb-true on.cpu cpu same) told)
-      (λ section h. entering section (or_l (eqb on.cpu cpu && enters section on.op) _ (ap (λ b. b && enters section on.op) same ∙ h))) s in
+      (λ section h. entering section (or_left (eqb on.cpu cpu && enters section on.op) _ (ap (λ b. b && enters section on.op) same ∙ h))) s in
       let rest = pass_hooks may_count may low after ops next (All-tail (IsFormedOn trace.cpus trace.sections) on ops are) first.2 later (done entries on.op w) step.1 in
       record { fits = (step.0, rest.fits); left = rest.left })
       (λ other.

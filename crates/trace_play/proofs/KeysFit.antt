@@ -51,13 +51,14 @@ in_parts whole order below = ap (λ n. 2 ^ n) (let e : whole ≡ (whole - order)
 parts_are : (whole order : ℕ) → order < whole → 2 ^ whole / 2 ^ order ≡ 2 ^ (whole - order)
 parts_are whole order below = div-eq_of_eq-mul_left (pow_pos order) (in_parts whole order below)
 
-pub bytes_of_part : (whole order : ℕ) → order < whole → 4096 * 2 ^ whole / 2 ^ (whole - order) ≡ 4096 * 2 ^ order
-bytes_of_part whole order below =
-    div-eq_of_eq-mul_left (pow_pos (whole - order))
-    (ap (λ n. 4096 * n) (in_parts whole order below) ∙ shuffle 4096 (2 ^ (whole - order)) (2 ^ order))
+pub bytes_in_parts : (whole order : ℕ) → order < whole → 4096 * 2 ^ whole ≡ 4096 * 2 ^ order * 2 ^ (whole - order)
+bytes_in_parts whole order below = ap (λ n. 4096 * n) (in_parts whole order below) ∙ shuffle 4096 (2 ^ (whole - order)) (2 ^ order)
   where
     shuffle : (a b c : ℕ) → a * (b * c) ≡ a * c * b
     shuffle a b c = ap (λ n. a * n) (mul_comm b c) ∙ sym (mul_assoc a c b)
+
+bytes_of_part : (whole order : ℕ) → order < whole → 4096 * 2 ^ whole / 2 ^ (whole - order) ≡ 4096 * 2 ^ order
+bytes_of_part whole order below = div-eq_of_eq-mul_left (pow_pos (whole - order)) (bytes_in_parts whole order below)
 
 -- ---- what a found entry is
 

@@ -24,3 +24,4 @@ pub mod MovesOf
 pub mod OwnWords
 pub mod WordsTotal
 pub mod CellsFound
+pub mod RangeSums

@@ -4,7 +4,7 @@ use Rattle.std.specs.Prelude.{◌&&◌, fold, sum_by, if◌then◌else◌}
 use Rattle.std.specs.Bool.{⊤}
 use Rattle.std.specs.List.{list_all, range_with_len}
 use Rattle.std.specs.Option.{option_map}
-use Rattle.std.proofs.lemmas.Bool.{eqb-false}
+use Rattle.std.proofs.lemmas.Bool.{eqb-false, and_parts}
 use Rattle.std.proofs.lemmas.List.{length-set}
 use Rattle.std.proofs.lemmas.List.FromFn.{length-map-range_with_len}
 use Rattle.std.proofs.lemmas.List.Folds.{list_all-append}
@@ -47,7 +47,7 @@ use Rattle.tag_model.specs.Reference.{live_total}
 use Rattle.trace_play.specs.Printed.{tag_row}
 use Rattle.trace_play.specs.Totals.{IsAccounted, TellsLive, words_total}
 use Rattle.trace_play.proofs.Rising.{modules_live, worker_rises}
-use Rattle.trace_play.proofs.NodeLemmas.{cpu_of_vector, both_hold}
+use Rattle.trace_play.proofs.NodeLemmas.{cpu_of_vector}
 use Rattle.trace_play.proofs.WorkerSound.{AllSound, worker_sum, step_sound}
 use Rattle.trace_play.proofs.MachineSound.{elsewhere, to_worker, turns, item_sound, first_sound, after_items, OnTheWay, home_low, one_home, sets_out, same_parts}
 use Rattle.trace_play.proofs.TraceFits.{Between, fits_of_round, modules_seats, round_count}

@@ -5,6 +5,7 @@ use Rattle.std.specs.List.{filter}
 use Rattle.std.proofs.lemmas.Option.{slice_get-get_or}
 use Rattle.std.proofs.lemmas.List.Elements.{All-head, All-tail}
 use Rattle.std.proofs.lemmas.Nat.{pow_pos}
+use Rattle.std.proofs.lemmas.Bool.{and_parts}
 use Rattle.tag_model.specs.declared.state.Held.{Held}
 use Rattle.tag_section.specs.Section.{Section}
 use Rattle.module_area.specs.declared.entry.Entry.{Entry}
@@ -25,7 +26,7 @@ use Rattle.trace_play.specs.Owned.{one_if, is_in, has_frame, same_vector, is_obj
 use Rattle.trace_play.specs.Sound.{content_weight}
 use Rattle.trace_play.proofs.KeysFit.{content_is}
 use Rattle.trace_play.proofs.LiveSums.{found_weight, sum_found}
-use Rattle.trace_play.proofs.NodeLemmas.{both_hold, is_in_it, own_home, must_be, same_number, taken_within}
+use Rattle.trace_play.proofs.NodeLemmas.{is_in_it, own_home, must_be, same_number, taken_within}
 use Rattle.trace_play.proofs.Rising.{worker_rises}
 use Rattle.trace_play.proofs.WorkerSound.{worker_sum, AllSound, step_sound}
 
@@ -68,9 +69,9 @@ object_place node all sound frame place vector some =
 
     found : (o : Option Slab) → 1 ≤ is_taken_at vector place o → (slab : Slab) × (o ≡ Some slab) × (is_taken place slab ≡ true) × (vector ≡ slab.vector)
     found None h = absurd (omega arith)
-    found (Some slab) h = let b = both_hold (is_taken place slab) (same_vector vector slab.vector) (one_of _ h) in (slab, refl, b.0, vectors_are vector slab.vector b.1)
+    found (Some slab) h = let b = and_parts (is_taken place slab) (same_vector vector slab.vector) (one_of _ h) in (slab, refl, b.0, vectors_are vector slab.vector b.1)
 
-storage_there : (node : NodeState) (all : (Storage → ℕ) → ℕ) → NodeSound node all → (given : Storage) → home_of given ≡ node.node.cpu → ((weight : Storage → ℕ) → weight given ≤ all weight) → IsOf node given
+pub storage_there : (node : NodeState) (all : (Storage → ℕ) → ℕ) → NodeSound node all → (given : Storage) → home_of given ≡ node.node.cpu → ((weight : Storage → ℕ) → weight given ≤ all weight) → IsOf node given
 storage_there node all sound (storage.Pages block) own given = block_within node all sound block.home block.frame block.order block.holds own given
 storage_there node all sound (storage.Object home frame place vector holds) own given =
     let c = node.node.cpu in

@@ -5,7 +5,7 @@ use Rattle.std.specs.Bool.{⊤}
 use Rattle.std.specs.List.{find, list_any, list_all, position_or_len}
 use Rattle.std.proofs.lemmas.List.Quantifiers.{position-Some}
 use Rattle.std.specs.Option.{option_map}
-use Rattle.std.proofs.lemmas.Bool.{cond-true, cond-false, eqb-false}
+use Rattle.std.proofs.lemmas.Bool.{cond-true, cond-false, eqb-false, and_parts}
 use Rattle.std.proofs.lemmas.Grind.{get_or-set_at}
 use Rattle.std.proofs.lemmas.List.{length-set, get_or-set_other, length-replicate}
 use Rattle.std.proofs.lemmas.Nat.{pow_pos}
@@ -31,12 +31,8 @@ pub by_test : {P : Type 0} (b : Bool) → (b ≡ true → P) → (b ≡ false �
 by_test true h g = h refl
 by_test false h g = g refl
 
-pub both_hold : (a b : Bool) → (a && b) ≡ true → (a ≡ true) × (b ≡ true)
-both_hold true b e = (refl, e)
-both_hold false b e = let no : ⊥ = cc in absurd no
-
 in_range : (frame start order : ℕ) → is_in frame start order ≡ true → (start ≤ frame) × (frame < start + 2 ^ order)
-in_range frame start order e = let b = both_hold (leb start frame) (ltb frame (start + 2 ^ order)) e in (leb-true start frame b.0, ltb-true frame (start + 2 ^ order) b.1)
+in_range frame start order e = let b = and_parts (leb start frame) (ltb frame (start + 2 ^ order)) e in (leb-true start frame b.0, ltb-true frame (start + 2 ^ order) b.1)
 
 out_of_range : (frame start order : ℕ) → is_in frame start order ≡ false → (frame < start) ⊎ (start + 2 ^ order ≤ frame)
 out_of_range frame start order e =
@@ -511,7 +507,7 @@ class_has size class e = ltb-true 0 (objects_in class) (passes (leb size) classe
     passes : (p : ℕ → Bool) (xs : List ℕ) (x : ℕ) → list_all (λ c. ltb 0 (objects_in c)) xs ≡ true → find p xs ≡ Some x → ltb 0 (objects_in x) ≡ true
     passes p [] x all e = let no : ⊥ = cc in absurd no
     passes p (y ∷ ys) x all e =
-        let here = both_hold (ltb 0 (objects_in y)) (list_all (λ c. ltb 0 (objects_in c)) ys) all in
+        let here = and_parts (ltb 0 (objects_in y)) (list_all (λ c. ltb 0 (objects_in c)) ys) all in
         by_test (p y)
         (λ yes_so. let f : Some y ≡ Some x = sym (cond-true (p y) (Some y) (find p ys) yes_so) ∙ e in let same : y ≡ x = cc in subst (λ n. ltb 0 (objects_in n) ≡ true) same here.0)
         (λ no_so. passes p ys x here.1 (sym (cond-false (p y) (Some y) (find p ys) no_so) ∙ e))
@@ -556,7 +552,7 @@ gives node all sound tag size = by (class_of size) refl
   where
     is_some_slab : (class : ℕ) (o : Option Slab) → is_open class o ≡ true → (slab : Slab) × (o ≡ Some slab) × (list_any not slab.places ≡ true)
     is_some_slab class None e = let no : ⊥ = cc in absurd no
-    is_some_slab class (Some slab) e = (slab, refl, (both_hold (eqb slab.class class) (list_any not slab.places) e).1)
+    is_some_slab class (Some slab) e = (slab, refl, (and_parts (eqb slab.class class) (list_any not slab.places) e).1)
 
     by_start : (class : ℕ) → 0 < objects_in class → (start : Option ℕ) → start_in (slab_order class) node ≡ start → MaybeGiven node all (option_map (object_from_new tag class node) start)
     by_start class has None e = tt
@@ -610,7 +606,7 @@ module _ (node : NodeState) (all all' : (Storage → ℕ) → ℕ) (sound : Node
 
       found : (o : Option Slab) → 1 ≤ is_taken_at vector place o → (slab : Slab) × (o ≡ Some slab) × (is_taken place slab ≡ true) × (vector ≡ slab.vector)
       found None h = absurd (omega arith)
-      found (Some slab) h = let b = both_hold (is_taken place slab) (same_vector vector slab.vector) (one_of _ h) in (slab, refl, b.0, vectors_are vector slab.vector b.1)
+      found (Some slab) h = let b = and_parts (is_taken place slab) (same_vector vector slab.vector) (one_of _ h) in (slab, refl, b.0, vectors_are vector slab.vector b.1)
 
       by : (slab : Slab) (b : Bool) → is_used slab ≡ b → frame < length node.slabs → NodeSound (with_slab frame (Some slab) node) all'
           → NodeSound (cond {A = Taken} b (record { node = with_slab frame (Some slab) node; moves = [] }) (record { node = without_slab frame slab node; moves = close_moves node.node.cpu (slab_held slab.class) })).node all'

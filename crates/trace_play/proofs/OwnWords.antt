@@ -2,7 +2,7 @@
 use Rattle.std.proofs.Common.{◌≡◌, ◌≢◌, ℕ, zero, suc, ◌+◌, ◌<◌, ◌≤◌, Bool, true, false, cond, eqb, List, [], ◌∷◌, ◌++◌, length, refl, sym, ap, ◌∙◌, subst, arith, eqb-true, eq-eqb, ne_eqb}
 use Rattle.std.specs.Prelude.{slice_index, slice_set, ◌&&◌, fold, Option, Some, None}
 use Rattle.std.specs.List.{list_all, range_with_len}
-use Rattle.std.proofs.lemmas.Bool.{eqb-false}
+use Rattle.std.proofs.lemmas.Bool.{eqb-false, and_parts}
 use Rattle.std.proofs.lemmas.List.Sums.{fold-append}
 use Rattle.tag_model.specs.Moves.{Move}
 use Rattle.tag_model.specs.WordState.{word_place}
@@ -21,7 +21,6 @@ use Rattle.trace_play.specs.Worker.{Tally, WorkerState, all_done, allocated, cpu
 use Rattle.trace_play.specs.Machine.{Machine, nothing_done, seat_at, worker_at}
 use Rattle.trace_play.specs.Barrier.{cpus_done, ops_of}
 use Rattle.trace_play.specs.Alone.{alone, given_back as machine_given, rises, side_by_side, worker_done, NamesItsOwn, NoneShared}
-use Rattle.trace_play.proofs.AloneLemmas.{both_true}
 use Rattle.trace_play.proofs.MovesOf.{AreOf, all_of}
 use Rattle.trace_play.proofs.SideBySide.{are_side_by_side}
 
@@ -30,7 +29,7 @@ use Rattle.trace_play.proofs.SideBySide.{are_side_by_side}
 others_leave : (cpu other : ℕ) → cpu ≢ other → (words : List ℕ) (moves : List Move) → AreOf (λ c. eqb c other) moves → words_after_moves cpu words moves ≡ words
 others_leave cpu other differ words [] a = refl
 others_leave cpu other differ words (move ∷ moves) a =
-    let both = both_true (eqb move.cpu other) (list_all (λ (m : Move). eqb m.cpu other) moves) a in
+    let both = and_parts (eqb move.cpu other) (list_all (λ (m : Move). eqb m.cpu other) moves) a in
     let not_its : eqb move.cpu cpu ≡ false = ne_eqb move.cpu cpu (λ e. differ (sym e ∙ eqb-true move.cpu other both.0)) in
     let stays : words_after_move cpu words move ≡ words = ap (λ b. cond b (slice_set words (word_place move.kind move.tag) (wrap_minus (slice_index words (word_place move.kind move.tag) + move.up) move.down)) words) not_its in
     ap (λ ws. words_after_moves cpu ws moves) stays ∙ others_leave cpu other differ words moves both.1

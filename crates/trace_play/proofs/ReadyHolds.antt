@@ -3,7 +3,7 @@ use Rattle.std.proofs.Common.{◌≡◌, ℕ, zero, suc, ◌+◌, ◌<◌, ◌�
 use Rattle.std.specs.Prelude.{◌&&◌, if◌then◌else◌}
 use Rattle.std.specs.List.{find, list_all, range_with_len}
 use Rattle.std.specs.Option.{option_or}
-use Rattle.std.proofs.lemmas.Bool.{eqb-false, cases_lt}
+use Rattle.std.proofs.lemmas.Bool.{eqb-false, cases_lt, or_left, or_right}
 use Rattle.std.proofs.lemmas.Result.{IfOk-at_ok}
 use Rattle.std.proofs.lemmas.Grind.{get_or-set_at}
 use Rattle.std.proofs.lemmas.List.{length-set, get_or-set_other, get_or_past, length-replicate}
@@ -54,7 +54,7 @@ use Rattle.trace_play.proofs.TraceFits.{Between, begins_between, fits_of_round, 
 use Rattle.trace_play.proofs.WorkerSound.{AllSound, worker_sum, same_node}
 use Rattle.trace_play.proofs.MachineSound.{elsewhere, to_worker, item_sound, first_sound}
 use Rattle.trace_play.proofs.NeedsMet.{all_there, all_in_range}
-use Rattle.trace_play.proofs.HooksFit.{either_or, or_l, or_r, hooks_map, HookState, pass_hooks}
+use Rattle.trace_play.proofs.HooksFit.{either_or, hooks_map, HookState, pass_hooks}
 use Rattle.trace_play.proofs.ModulesHold.{loaded_one, dead_go, module_set, is_loaded, Along, lines_along, entering_loaded}
 
 -- ---- between items
@@ -326,8 +326,8 @@ ready_round trace ops walk m few are formed b h s f =
           all_may trace entries (cpu_at walk.cpus cpu) may_count (cpu_at walk.cpus cpu).hooks (seat_at cpu m).hooks
           (λ section tag hook.
           let runs : (eqb section 0 || runs_inside before ops cpu section) ≡ true =
-          by_bool {P = (eqb section 0 || runs_inside before ops cpu section) ≡ true} (eqb section 0) (λ e. or_l (eqb section 0) _ e)
-          (λ e. or_r (eqb section 0) _ (or_l (is_inside section (cpu_at walk.cpus cpu)) _ (either_or (eqb section 0) _ hook.may e))) in
+          by_bool {P = (eqb section 0 || runs_inside before ops cpu section) ≡ true} (eqb section 0) (λ e. or_left (eqb section 0) _ e)
+          (λ e. or_right (eqb section 0) _ (or_left (is_inside section (cpu_at walk.cpus cpu)) _ (either_or (eqb section 0) _ hook.may e))) in
           ap may_count hook.is ∙ may section hook.index runs hook.low)
           (h.hooks cpu low);
       needs = λ cpu may_count low may.
@@ -335,8 +335,8 @@ ready_round trace ops walk m few are formed b h s f =
           let w = alone mine (worker_at cpu m) in
           let keys = f.fits cpu in
           let hooks = pass_hooks trace entries cpu (runs_inside before ops cpu) may_count may (omega (arith, b.count)) f.after ops before formed f.walked
-          (λ section e. or_r (is_inside section (cpu_at before.cpus cpu)) _ e) w
-          (begins_hooks trace few walk m cpu (runs_inside before ops cpu) (λ section i. or_l (is_inside section (cpu_at before.cpus cpu)) _ i) low h w refl) in
+          (λ section e. or_right (is_inside section (cpu_at before.cpus cpu)) _ e) w
+          (begins_hooks trace few walk m cpu (runs_inside before ops cpu) (λ section i. or_left (is_inside section (cpu_at before.cpus cpu)) _ i) low h w refl) in
           fit_of may_count entries (ops_of cpu ops) w
           (all_in_range trace.cpus trace.sections cpu entries ops formed w)
           keys

@@ -2,7 +2,7 @@
 use Rattle.std.proofs.Common.{◌≡◌, ℕ, ◌<◌, Bool, true, false, cond, eqb, ltb, List, [], ◌∷◌, length, map, None, Ok, All, refl, sym, ap, ◌∙◌, subst, subst₂, arith, eqb-true, eq-eqb, ltb-true, lt-ltb}
 use Rattle.std.specs.Prelude.{◌&&◌}
 use Rattle.std.specs.List.{filter}
-use Rattle.std.proofs.lemmas.Bool.{cond-true, eqb-false}
+use Rattle.std.proofs.lemmas.Bool.{cond-true, eqb-false, and_parts, and_from}
 use Rattle.std.proofs.lemmas.List.Elements.{All-head, All-tail}
 use Rattle.module_area.specs.declared.entry.Entry.{Entry}
 use Rattle.trace.specs.declared.traces.OnOp.{OnOp}
@@ -22,16 +22,12 @@ use Rattle.trace_play.specs.Barrier.{ops_of, cpus_done}
 use Rattle.trace_play.specs.Alone.{rises, kept, names_only, alone, worker_done, NoneShared, NamesItsOwn}
 use Rattle.trace_play.specs.Fits.{entry_at, AllFit, AgreeAt, Agree, IsBoundAs, is_owner, RoundFits}
 use Rattle.trace_play.proofs.Entries.{find_kept}
-use Rattle.trace_play.proofs.AloneLemmas.{both_true, own_names}
+use Rattle.trace_play.proofs.AloneLemmas.{own_names}
 use Rattle.trace_play.proofs.SideBySide.{find_of_kept, kept_all, are_left, unnamed}
 use Rattle.trace_play.proofs.Told.{line_told}
 use Rattle.trace_play.proofs.KeysFit.{step_fits}
 
 -- ---- lines
-
-and_is : (a b : Bool) → a ≡ true → b ≡ true → (a && b) ≡ true
-and_is true b p q = q
-and_is false b p q = let no : ⊥ = cc in absurd no
 
 -- ---- who names a key
 
@@ -44,10 +40,10 @@ owns_it on ops here next after fits fits_line are e rest key named =
     let stamped = passed.keys.binds.stamped key named (omega (arith, fits.keys)) in
     let now : IsOf on.cpu key next = record { round = stamped.0 ∙ sym passed.round; cpu_is = stamped.1 } in
     let later = (kept_on (λ walk. (length walk.keys ≡ 65536) × IsOf on.cpu key walk) (of_kept on.cpu key below) ops next after are (fits_on on.cpu on.op here next fits passed) rest (passed.keys.binds.long ∙ fits.keys, now)).0.1 in
-    and_is _ _ (eq-eqb _ _ later.round) (eq-eqb _ _ later.cpu_is)
+    and_from _ _ (eq-eqb _ _ later.round) (eq-eqb _ _ later.cpu_is)
 
 owner_cpu : (after : Walk) (cpu key : ℕ) → is_owner after cpu key ≡ true → ((key_at after.keys key).round ≡ after.round) × ((key_at after.keys key).cpu ≡ cpu)
-owner_cpu after cpu key h = let both = both_true (eqb (key_at after.keys key).round after.round) (eqb (key_at after.keys key).cpu cpu) h in (eqb-true _ _ both.0, eqb-true _ _ both.1)
+owner_cpu after cpu key h = let both = and_parts (eqb (key_at after.keys key).round after.round) (eqb (key_at after.keys key).cpu cpu) h in (eqb-true _ _ both.0, eqb-true _ _ both.1)
 
 pub none_shared : (after : Walk) → NoneShared (is_owner after)
 none_shared after one two differ key h =
@@ -82,7 +78,7 @@ module _ (after : Walk) (entries : List Entry) (cpu : ℕ) where
       let step = step_fits mine on.cpu here next w fits.keys a entries on.op (line_told on.cpu on.op here next first.1) passed.keys.owns.within
       (λ k h. subst (λ c. is_owner after c k ≡ true) (eqb-true on.cpu cpu same) (owns k h)) in
       let rest = pass ops next later fits_next first.2 (done entries on.op w) step.after in
-      record { fits = (step.fits, rest.fits); names = and_is _ _ step.names rest.names; agree = rest.agree })
+      record { fits = (step.fits, rest.fits); names = and_from _ _ step.names rest.names; agree = rest.agree })
       (λ other.
       pass ops next later fits_next first.2 w
       (λ q own. subst (λ (s : KeyState). IsBoundAs s.bound (entry_at q w.live)) (sym (passed.keys.binds.others q (unnamed_by on.cpu here on.op q owns other own))) (a q own)))
@@ -139,7 +135,7 @@ round_fits ops before after m are low fits e r a =
           let cpu = (key_at after.keys key).cpu in
           by_bool (is_owner after cpu key && ltb cpu (length m.seats))
           (λ h.
-          let is = both_true (is_owner after cpu key) (ltb cpu (length m.seats)) h in
+          let is = and_parts (is_owner after cpu key) (ltb cpu (length m.seats)) h in
           let below : cpu < length m.seats = ltb-true _ _ is.1 in
           let left : kept (own cpu) (cpus_done ops m).live ≡ (worker_done own ops m cpu).live = ap (λ (w : WorkerState). w.live) (are_left own ops m r apart (λ c _. names c) cpu below) ∙ kept_all (worker_done own ops m cpu).live in
           subst (IsBoundAs (key_at after.keys key).bound) (sym (find_of_kept (own cpu) key (cpus_done ops m).live (worker_done own ops m cpu).live left is.0)) ((passes cpu).agree key is.0))

@@ -19,14 +19,7 @@ use Rattle.round_check.specs.Keys.{key_at, own_key, own_keys, free_key, free_key
 use Rattle.round_check.specs.Rounds.{is_one_of}
 use Rattle.round_check.specs.Cpus.{cpu_at, is_inside}
 use Rattle.round_check.specs.Walk.{turn_of, with_keys, module_at, is_moved, is_unloaded, enter_module, leave_module, unload_module, hook_tag, unhook_tag, walk_op}
-use Rattle.round_check.proofs.Named.{by_bool}
-
-no_truth : {P : Type 0} → false ≡ true → P
-no_truth e = let no : ⊥ = cc in absurd no
-
-or_left : (a b : Bool) → (a || b) ≡ true → b ≡ false → a ≡ true
-or_left true b e none = refl
-or_left false b e none = let no : ⊥ = cc in absurd no
+use Rattle.round_check.proofs.Named.{by_bool, no_truth, or_left, bound_in, block_in}
 
 none_is : {A : Type 0} (o : Option A) → is_none o ≡ true → o ≡ None
 none_is None e = refl
@@ -35,18 +28,6 @@ none_is (Some x) e = no_truth e
 pub not_true : (b : Bool) → not b ≡ true → b ≡ false
 not_true true e = no_truth e
 not_true false e = refl
-
-some_in : {A : Type 0} (o : Option A) (c : Code) → IfOk (ok_or o c) (λ x. o ≡ Some x)
-some_in None c = tt
-some_in (Some x) c = refl
-
-bound_in : (keys : List KeyState) (key : ℕ) → IfOk (bound_key keys key) (λ what. (key_at keys key).bound ≡ Some what)
-unfolding bound_key
-bound_in keys key = some_in (key_at keys key).bound (code.NoKey key)
-
-block_in : (key : ℕ) (what : Bound) → IfOk (block_of key what) (λ block. what ≡ kept.Block block)
-block_in key kept.Object = tt
-block_in key (kept.Block block) = refl
 
 free_in : (keys : List KeyState) (key : ℕ) → IfOk (free_key keys key) (λ _. (key_at keys key).bound ≡ None)
 unfolding free_key

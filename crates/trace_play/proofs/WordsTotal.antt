@@ -4,7 +4,7 @@ use Rattle.std.specs.Prelude.{◌&&◌, fold, sum_by, if◌then◌else◌}
 use Rattle.std.specs.Bool.{⊤}
 use Rattle.std.specs.List.{list_all, range_with_len}
 use Rattle.std.specs.Option.{option_map}
-use Rattle.std.proofs.lemmas.Bool.{eqb-false}
+use Rattle.std.proofs.lemmas.Bool.{eqb-false, and_parts}
 use Rattle.std.proofs.lemmas.List.{length-set}
 use Rattle.std.proofs.lemmas.List.FromFn.{length-map-range_with_len}
 use Rattle.std.proofs.lemmas.List.Folds.{list_all-append}
@@ -47,7 +47,7 @@ use Rattle.tag_model.specs.Reference.{live_total}
 use Rattle.trace_play.specs.Printed.{tag_row}
 use Rattle.trace_play.specs.Totals.{IsAccounted, TellsLive, words_total}
 use Rattle.trace_play.proofs.Rising.{modules_live, worker_rises}
-use Rattle.trace_play.proofs.NodeLemmas.{cpu_of_vector, both_hold}
+use Rattle.trace_play.proofs.NodeLemmas.{cpu_of_vector}
 use Rattle.trace_play.proofs.WorkerSound.{AllSound, worker_sum, step_sound}
 use Rattle.trace_play.proofs.MovesOf.{AreOf, all_of, home_moves_of, of_both}
 use Rattle.trace_play.proofs.MachineSound.{elsewhere, to_worker, turns, item_sound, first_sound, after_items, OnTheWay, home_low, one_home, sets_out, same_parts}
@@ -179,7 +179,7 @@ module _ (kind : Kind) (t : ℕ) where
   ups_of_all : (count : ℕ) (moves : List Move) → AreLow count moves → sum_by (λ mv. sum_by (λ c. up_on c mv) (range_with_len 0 count)) moves ≡ all_up kind t moves
   ups_of_all count [] low = refl
   ups_of_all count (mv ∷ moves) low =
-      let b = both_hold (ltb mv.cpu count) (list_all (λ (x : Move). ltb x.cpu count) moves) low in
+      let b = and_parts (ltb mv.cpu count) (list_all (λ (x : Move). ltb x.cpu count) moves) low in
       sum_by-cons (λ mv. sum_by (λ c. up_on c mv) (range_with_len 0 count)) mv moves
       ∙ (λ i. column count mv mv.up (ltb-true mv.cpu count b.0) i + ups_of_all count moves b.1 i)
       ∙ sym (sum_by-cons (λ (m : Move). if is_under kind t m then m.up else 0) mv moves)
@@ -187,7 +187,7 @@ module _ (kind : Kind) (t : ℕ) where
   downs_of_all : (count : ℕ) (moves : List Move) → AreLow count moves → sum_by (λ mv. sum_by (λ c. down_on c mv) (range_with_len 0 count)) moves ≡ all_down kind t moves
   downs_of_all count [] low = refl
   downs_of_all count (mv ∷ moves) low =
-      let b = both_hold (ltb mv.cpu count) (list_all (λ (x : Move). ltb x.cpu count) moves) low in
+      let b = and_parts (ltb mv.cpu count) (list_all (λ (x : Move). ltb x.cpu count) moves) low in
       sum_by-cons (λ mv. sum_by (λ c. down_on c mv) (range_with_len 0 count)) mv moves
       ∙ (λ i. column count mv mv.down (ltb-true mv.cpu count b.0) i + downs_of_all count moves b.1 i)
       ∙ sym (sum_by-cons (λ (m : Move). if is_under kind t m then m.down else 0) mv moves)
