@@ -4,9 +4,10 @@ use Rattle.slab_cache.specs.Storage.{home_of}
 use Rattle.slab_cache.specs.Homing.{come_home}
 use Rattle.slab_cache.specs.Shown.{SlabNodeShown, state_of, storage_of}
 use Rattle.round_worker.specs.Working.{IsWorker}
-use Rattle.round_worker.proofs.CountLemmas.{home_long, long_now}
+use Rattle.trace_play.proofs.CellsFound.{home_size}
+use Rattle.round_worker.proofs.CountLemmas.{long_now}
 use Rattle.round_worker.proofs.Keeps.{node_keeps}
-use Rattle.round_worker.proofs.KeptLemmas.{never}
+use Rattle.round_worker.proofs.KeyLemmas.{never}
 use Rattle.round_worker.proofs.worker.Worker.free_object.Goals as goal
 
 pub invariant_of-self : goal.invariant_of-self
@@ -26,6 +27,6 @@ invariant_of-self-in-None c =
       | inl here ↦
           let now = (c.kfree.ensures.home here).1.becomes in
           node_keeps me.frames me.node me.hooks me.keys me.returning.items c.self.invariant c.kfree.new.node now.board now.stands
-          (long_now (come_home given (state_of me.node)).node me.node c.kfree.new.node now (home_long given (state_of me.node)))
+          (long_now (come_home given (state_of me.node)).node me.node c.kfree.new.node now (home_size given (state_of me.node)).slabs)
       | inr other ↦ never _ (sym c.in-None.is ∙ (c.kfree.ensures.away other).0)
     ]
