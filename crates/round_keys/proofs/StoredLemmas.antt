@@ -26,6 +26,7 @@ use Rattle.round_worker.specs.Shown.{WorkerShown}
 use Rattle.round_keys.specs.Stored.{bound_word, counted_in, counts_on, counts_slot, key_cells}
 use Rattle.round_worker.proofs.CellLemmas.{kept_found, more_found}
 use Rattle.round_worker.proofs.KeyLemmas.{live_put}
+use Rattle.round_check.proofs.Named.{by_bool}
 use Rattle.round_keys.proofs.PageLemmas.{pages_rise, unmapped}
 
 -- ---- the first entry and the others
@@ -96,7 +97,7 @@ module _ {X : Type 0} (P : X → Type 0) where
       let later = in_slots (key + 1) slots rest (All-tail each (key, x) (slots_from (key + 1) slots ++ rest) all) in
       (All-cons (λ (slot : Option X). IfSome slot P) (Some x) slots (All-head each (key, x) (slots_from (key + 1) slots ++ rest) all) later.0, later.1)
 
-  pub in_pages : (number : ℕ) (pages : List (List (Option X))) → All (λ (e : ℕ × X). P e.1) (pages_from number pages) → InPages P pages
+  pub in_pages : (number : ℕ) (pages : List (List (Option X))) → All (λ (e : ℕ × X). P e.1) (pages_from number pages) → All (λ (page : List (Option X)). InSlots P page) pages
   in_pages number [] all = All-nil (λ (page : List (Option X)). InSlots P page)
   in_pages number (page ∷ pages) all =
       let both = in_slots (256 * number) page (pages_from (number + 1) pages) all in
@@ -109,7 +110,7 @@ module _ {X : Type 0} (P : X → Type 0) where
       All-cons (λ (e : ℕ × X). P e.1) (key, x) (slots_from (key + 1) slots) (All-head (λ (slot : Option X). IfSome slot P) (Some x) slots all)
       (of_slots (key + 1) slots (All-tail (λ (slot : Option X). IfSome slot P) (Some x) slots all))
 
-  pub of_pages : (number : ℕ) (pages : List (List (Option X))) → InPages P pages → All (λ (e : ℕ × X). P e.1) (pages_from number pages)
+  pub of_pages : (number : ℕ) (pages : List (List (Option X))) → All (λ (page : List (Option X)). InSlots P page) pages → All (λ (e : ℕ × X). P e.1) (pages_from number pages)
   of_pages number [] all = All-nil (λ (e : ℕ × X). P e.1)
   of_pages number (page ∷ pages) all =
       let each : List (Option X) → Type 0 = λ (page : List (Option X)). InSlots P page in

@@ -6,6 +6,7 @@ use Rattle.round_worker.specs.declared.keys.Kept.{Kept}
 use Rattle.round_worker.specs.Kept.{IsKept}
 use Rattle.round_keys.specs.Pages.{InSlots}
 use Rattle.round_keys.specs.Stored.{IsCovered}
+use Rattle.round_check.proofs.Named.{by_bool}
 use Rattle.round_keys.proofs.PageLemmas.{all_seen, of_seen, seen_at}
 use Rattle.round_keys.proofs.meeting.meet_pages.Goals as goal
 
