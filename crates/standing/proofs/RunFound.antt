@@ -9,7 +9,7 @@ use Rattle.module_area.specs.declared.entry.State.TheVariants.{Loaded, Dead}
 use Rattle.module_area.specs.Entries.{is_dead, is_loaded_as, is_loaded_at}
 use Rattle.core_list.specs.ListState.{run_of}
 use Rattle.round_modules.specs.Known.{runs_of, staying}
-use Rattle.trace_cover.proofs.Areas.{or_left, or_right}
+use Rattle.std.proofs.lemmas.Bool.{or_left, or_right}
 
 -- a module that is found loaded has its run among theirs
 pub run_found : (section : ℕ) (test : Run → Bool) (entries : List Entry) (e : Entry) → find (is_loaded_as section) entries ≡ Some e → test (run_of e) ≡ true → list_any test (runs_of entries) ≡ true
