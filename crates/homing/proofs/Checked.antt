@@ -1,29 +1,22 @@
 -- In a round of a checked trace all storage finds its home.
-use Rattle.std.proofs.Common.{◌≡◌, ℕ, ◌+◌, ◌-◌, ◌^◌, ◌<◌, ◌≤◌, true, false, List, [], ◌∷◌, length, get_or, Option, Some, None, Ok, All, sym, ap, ◌∙◌, subst, eqb, arith}
-use Rattle.std.specs.Prelude.{◌&&◌, sum_by}
+use Rattle.std.proofs.Common.{◌≡◌, ℕ, ◌+◌, ◌-◌, List, [], ◌∷◌, length, Option, None, Ok, All, sym, subst, arith}
+use Rattle.std.specs.Prelude.{sum_by}
 use Rattle.std.proofs.lemmas.List.Sums.{sum_by-cons}
-use Rattle.std.proofs.lemmas.Nat.{pow_pos}
 use Rattle.round_check.specs.Rounds.{IsRound}
 use Rattle.round_check.specs.Walk.{begun, walk_ops, rounds_of}
 use Rattle.round_check.specs.declared.walk.Walk.{Walk}
 use Rattle.round_check.proofs.Pairs.{round_of, all_behind}
-use Rattle.slab_cache.specs.Calls.{IsOf}
-use Rattle.slab_cache.specs.Slabs.{NodeState}
-use Rattle.slab_cache.specs.Storage as storage
 use Rattle.slab_cache.specs.Storage.{Storage, home_of}
-use Rattle.tag_model.specs.declared.state.Held.{Held}
 use Rattle.trace.specs.Formed.{IsFormedItem, IsFormedTrace}
 use Rattle.trace.specs.declared.traces.Item.TheVariants as item
 use Rattle.trace.specs.declared.traces.OnOp.{OnOp}
 use Rattle.trace.specs.declared.traces.Trace.{Trace}
 use Rattle.trace_play.specs.Barrier.{cpus_done, modules_done, none_on_its_way, on_its_way, storage_home}
 use Rattle.trace_play.specs.Machine.{Machine, seat_at}
-use Rattle.trace_play.specs.Owned.{one_if, is_in, has_frame, is_object_at, slab_has_frame, slabs_sum, NodeSound}
 use Rattle.trace_play.specs.Play.{played_so_far}
 use Rattle.trace_play.specs.Sound.{live_sum, IsSound}
 use Rattle.trace_play.proofs.MachineSound.{OnTheWay, home_low, machines_are_sound, one_home, ops_sound, sets_out}
 use Rattle.trace_play.proofs.NeedsMet.{storage_there}
-use Rattle.trace_play.proofs.NodeLemmas.{is_in_it, must_be, own_home, same_number, taken_within}
 use Rattle.trace_play.proofs.TraceFits.{before_round, fits_of_round, modules_seats}
 use Rattle.homing.specs.Seats.{AllFind, FindsHome}
 

@@ -1,18 +1,12 @@
--- How many slabs a node has, and that no op changes how many frames it has.
-use Rattle.std.proofs.Common.{◌≡◌, ℕ, ◌+◌, ◌<◌, Bool, true, false, cond, List, [], ◌∷◌, length, take, get_or, Option, Some, None, is_some, count_by, refl, sym, ap, ◌∙◌, subst, arith}
-use Rattle.std.specs.Prelude.{⊤, map, option_map}
+-- How many slabs a node has, and how many frames.
+use Rattle.std.proofs.Common.{◌≡◌, ℕ, ◌+◌, ◌<◌, Bool, true, false, cond, List, [], ◌∷◌, length, take, get_or, Option, Some, None, is_some, count_by, refl, sym, ap, ◌∙◌, arith}
+use Rattle.std.specs.Prelude.{map, option_map}
 use Rattle.std.specs.List.{enumerate_from, flat_map}
-use Rattle.std.proofs.lemmas.List.{length-append, length-map, length-set}
+use Rattle.std.proofs.lemmas.List.{length-append, length-map}
 use Rattle.std.proofs.lemmas.List.Sums.{count_by_more_no, count_by_more_yes, sum_by-cons}
-use Rattle.tag_model.specs.declared.state.Tag.{Tag}
-use Rattle.tag_model.specs.RefMoves.{close_moves}
 use Rattle.page_ext.specs.Shown.{BlockShown}
-use Rattle.slab_cache.specs.Classes.{class_of, order_of, slab_order}
-use Rattle.slab_cache.specs.Giving.{Given, block_from, given_object, object_from, object_from_new, object_or_block, slab_or_new, start_in, with_new_slab}
-use Rattle.slab_cache.specs.Homing.{Taken, come_home, place_home, without_slab}
 use Rattle.slab_cache.specs.Shown.{IsNow, SlabNodeShown, SlabShown, slab_block, state_of}
-use Rattle.slab_cache.specs.Slabs.{NodeState, Slab, is_used, lowest_vector, open_frame, slab_at, slab_held, with_pages, with_place, with_slab, with_vector}
-use Rattle.slab_cache.specs.Storage.{Storage, Pages, Object, Uncounted}
+use Rattle.slab_cache.specs.Slabs.{NodeState, Slab}
 use Rattle.trace_play.specs.Machine.{slab_cell, slab_cells}
 
 -- what a node shows is as long as what it is
