@@ -1,5 +1,5 @@
 -- The live list of a core is that of its places: what a place holds, and what is on the list once it holds something else.
-use Rattle.std.proofs.Common.{◌≡◌, ◌≢◌, ℕ, zero, suc, ◌+◌, ◌<◌, ◌≤◌, ◌==◌, ◌&&◌, not, Bool, true, false, cond, List, [], ◌∷◌, ◌++◌, length, get_or, set, refl, sym, ap, ◌∙◌, subst, arith, zero-add, add-zero, Option, Some, None, eq-eqb, ne_eqb, unwrap_or}
+use Rattle.std.proofs.Common.{◌≡◌, ℕ, zero, suc, ◌+◌, ◌<◌, ◌==◌, not, true, false, cond, List, [], ◌∷◌, ◌++◌, length, get_or, set, refl, sym, ap, ◌∙◌, arith, Option, Some, None, eq-eqb, ne_eqb, unwrap_or}
 use Rattle.std.proofs.lemmas.Bool.{and_from, and_parts}
 use Rattle.std.proofs.lemmas.Cmp.{ranked}
 use Rattle.std.specs.Ordering.{nat_cmp, is_eq, is_lt}
@@ -14,7 +14,7 @@ use Rattle.tag_model.specs.declared.state.Part.TheVariants.{Place}
 use Rattle.tag_model.specs.declared.state.Run.{Run}
 use Rattle.tag_model.specs.Laws.{live_of, live_pair}
 use Rattle.tag_model.specs.ListMachine as list
-use Rattle.tag_model.specs.ListMachine.{Live, in_order, with_held, without}
+use Rattle.tag_model.specs.ListMachine.{Live, with_held, without}
 use Rattle.core_list.specs.ListState.{ListState}
 use Rattle.core_steps.specs.CoreState.{CoreState, cpu_parts, list_parts, place_parts, runs_of, state_with, word_state}
 

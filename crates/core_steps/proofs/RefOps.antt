@@ -1,42 +1,37 @@
 -- What the steps of an op, from its first to its last, make of the places is what the list machine makes of the live list.
-use Rattle.std.proofs.Common.{◌≡◌, ◌≢◌, ℕ, zero, suc, ◌+◌, ◌-◌, ◌*◌, ◌/◌, ◌%◌, ◌<◌, ◌≤◌, ◌==◌, nat_lt, nat_le, List, [], ◌∷◌, length, get_or, set, take, fold, refl, sym, ap, ◌∙◌, subst, arith, Option, Some, None, Bool, true, false, not, cond, if◌then◌else◌, ltb-true, lt-ltb, le-ltb, eqb-true, eq-eqb, ne_eqb}
+use Rattle.std.proofs.Common.{◌≡◌, ◌≢◌, ℕ, zero, suc, ◌+◌, ◌-◌, ◌*◌, ◌/◌, ◌%◌, ◌<◌, ◌≤◌, ◌==◌, nat_lt, List, [], ◌∷◌, length, get_or, set, take, refl, sym, ap, ◌∙◌, subst, arith, Option, Some, None, Bool, true, false, if◌then◌else◌, ltb-true, lt-ltb, le-ltb, eq-eqb, ne_eqb}
 use Rattle.std.specs.List.{list_any, range_with_len}
 use Rattle.std.proofs.Math.Nat.{mul-div_cancel_left, suc-mul}
 use Rattle.std.proofs.lemmas.Nat.{mul-le}
-use Rattle.std.proofs.lemmas.Bool.{and_parts}
-use Rattle.std.proofs.lemmas.Bool.Decides.{nat_tests}
 use Rattle.std.proofs.lemmas.List.{get_or-set_other, length-set, set_comm, take_all}
 use Rattle.std.proofs.lemmas.List.FromFn.{get_or-range_with_len, length-range_with_len}
 use Rattle.std.proofs.lemmas.List.Sums.{fold_more}
 use Rattle.tag_model.specs.declared.state.Hand.{Hand}
 use Rattle.tag_model.specs.declared.state.Held.{Held}
 use Rattle.tag_model.specs.declared.state.Held.TheVariants as held
-use Rattle.tag_model.specs.declared.state.Run.{Run}
-use Rattle.tag_model.specs.declared.state.Tag.{Tag}
 use Rattle.tag_model.specs.Laws.{live_of}
 use Rattle.tag_model.specs.ListMachine as list
-use Rattle.tag_model.specs.ListMachine.{AreNew, Live, MayDo, is_even, with_each, with_held}
+use Rattle.tag_model.specs.ListMachine.{AreNew, Live, is_even, with_each, with_held}
 use Rattle.tag_model.specs.RefMoves.{part_of, trimmed}
 use Rattle.cpu_ops.specs.declared.op.CpuOp.{CpuOp}
 use Rattle.cpu_ops.specs.declared.op.CpuOp.TheVariants.{Open, Close, Split, Swap, Trim, Enter, Leave}
 use Rattle.cpu_ops.specs.declared.op.TheConstants.{KEY_END}
 use Rattle.cpu_ops.specs.declared.step.WordStep.{WordStep}
 use Rattle.cpu_ops.specs.declared.step.WordStep.TheVariants.{AddCall, Write}
-use Rattle.cpu_ops.specs.Machine.{Machine, Waiting, clear_step, first_refusal, hand_after, hand_at, held_at, in_hand, is_counted, is_live, is_new_key, is_reserved, is_used, less_bytes, new_keys, part_key, places_after, put_down, refusal_in, size_of, split_refusal, step_count, step_of, tag_in, waiting_at, with_bytes, with_call}
+use Rattle.cpu_ops.specs.Machine.{clear_step, first_refusal, hand_after, hand_at, held_at, in_hand, is_counted, is_new_key, is_used, less_bytes, new_keys, part_key, places_after, put_down, size_of, step_count, step_of, tag_in, with_bytes, with_call}
 use Rattle.cpu_ops.specs.MayQueue.{IsOp, IsSplit}
 use Rattle.cpu_ops.specs.declared.refused.StepRefused.{StepRefused}
 use Rattle.module_ops.specs.Modules.{inside_at, scene_at}
 use Rattle.core_steps.specs.declared.op.Actor.TheVariants as actor
-use Rattle.core_steps.specs.CoreState.{CoreState, HoldsParts, IsCore, place_parts, settled_hand, stepped, word_state}
-use Rattle.core_steps.specs.Laws.{Begins, after_steps, waits_for}
+use Rattle.core_steps.specs.CoreState.{CoreState, HoldsParts, IsCore, place_parts, settled_hand, word_state}
+use Rattle.core_steps.specs.Laws.{Begins, after_steps}
 use Rattle.core_steps.specs.RefOps.{MayDoIf, done_if, ref_op}
 use Rattle.core_steps.proofs.Hands.{passes}
 use Rattle.core_steps.proofs.Kept.{first_passes}
 use Rattle.core_steps.proofs.LivePlaces.{live_held, live_set, lives_of}
 use Rattle.core_steps.proofs.Ready.{live_counted}
-use Rattle.core_steps.proofs.SplitRun.{counted_is}
 use Rattle.core_steps.proofs.Splits.{SplitPasses, new_key_from, part_below, part_later, rest_hand, share_written, split_passes, unused_key}
-use Rattle.core_steps.proofs.Steps.{Stepped, UnderWay, after_more, in_free, ready_at, takes_step, under_way, waits_below}
+use Rattle.core_steps.proofs.Steps.{Stepped, after_more, in_free, ready_at, takes_step, under_way, waits_below}
 
 set_twice : (places : List Held) (i : ℕ) (a b : Held) → set (set places i a) i b ≡ set places i b
 set_twice [] i a b = refl

@@ -1,8 +1,7 @@
 -- The workers so far, and the pools that are left for those that come.
-use Rattle.std.proofs.Common.{◌≡◌, ◌+◌, ◌-◌, ◌<◌, ◌++◌, ℕ, zero, suc, List, [], ◌∷◌, add-one, add-zero, arith, ap, drop, length, map, refl, sym, take, zero-add, ◌∙◌}
+use Rattle.std.proofs.Common.{◌≡◌, ◌+◌, ◌-◌, ◌<◌, ◌++◌, ℕ, List, [], ◌∷◌, ap, drop, length, map, sym, take, zero-add, ◌∙◌}
 use Rattle.std.proofs.lemmas.List.FromFn.{map-range_with_len_more}
 use Rattle.std.specs.Prelude.{slice_index_or}
-use Rattle.std.specs.List.{range_with_len}
 use Rattle.tag_rule.specs.Made.{fresh_vectors, pages_of}
 use Rattle.tag_rule.specs.Shown.{Board, PoolShown}
 use Rattle.round_worker.specs.Shown.{WorkerShown}

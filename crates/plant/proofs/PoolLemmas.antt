@@ -1,11 +1,10 @@
 -- Cells that pools have.
-use Rattle.std.proofs.Common.{◌≡◌, ◌≢◌, ◌+◌, ◌<◌, ◌≤◌, ℕ, zero, suc, Bool, true, false, List, [], ◌∷◌, Option, Some, None, arith, ap, length, map, refl, replicate, subst, sym, ◌∙◌}
-use Rattle.std.specs.Prelude.{◌==◌, ◌||◌, is_none, slice_get, unwrap_or}
+use Rattle.std.proofs.Common.{◌≡◌, ◌≢◌, ◌+◌, ◌<◌, ◌≤◌, ℕ, zero, suc, Bool, true, false, List, [], ◌∷◌, Option, Some, None, arith, ap, length, map, refl, replicate, ◌∙◌}
+use Rattle.std.specs.Prelude.{◌==◌, ◌||◌, is_none}
 use Rattle.std.specs.Bool.{IsTrue}
 use Rattle.std.proofs.lemmas.Bool.{eqb-false}
-use Rattle.std.proofs.lemmas.List.FromFn.{length-map-range_with_len}
 use Rattle.std.specs.List.{list_any, range_with_len}
-use Rattle.tag_model.specs.Index.{object_index, page_index}
+use Rattle.tag_model.specs.Index.{page_index}
 use Rattle.tag_rule.specs.Made.{fresh_vectors, pages_of}
 use Rattle.tag_rule.specs.Shown.{Board, PoolShown, has}
 use Rattle.slab_ext.proofs.Made.{count_vectors}

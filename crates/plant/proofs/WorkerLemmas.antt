@@ -1,6 +1,6 @@
 -- A worker of fresh pools has what the meaning's CPU has before the first line.
 use Rattle.std.proofs.Common.{◌≡◌, ◌≤◌, ℕ, zero, suc, false, List, [], ◌∷◌, Option, Some, None, Result, Ok, Err, IfOk, arith, ap, length, map, refl, replicate, take, ◌∙◌}
-use Rattle.std.specs.Prelude.{option_map, slice_get, unwrap_or}
+use Rattle.std.specs.Prelude.{option_map}
 use Rattle.tag_rule.specs.Shown.{Board, PoolShown}
 use Rattle.slab_cache.specs.Shown.{SlabNodeShown, SlabShown}
 use Rattle.slab_cache.specs.Slabs.{Slab}

@@ -1,7 +1,6 @@
 -- What a run answers.
 use Rattle.std.proofs.Common.{◌≡◌, ℕ, ◌<◌, ◌≤◌, ◌==◌, ◌⊎◌, inl, inr, Bool, true, false, List, [], ◌∷◌, ◌++◌, length, Option, Some, None, Result, Ok, Err, refl, sym, ap, ◌∙◌, subst, arith, codes, decimal}
 use Rattle.std.specs.Prelude.{⊤, MatchResult, if◌then◌else◌}
-use Rattle.tag_model.specs.Index.{program_shape}
 use Rattle.tag_section.specs.Section.{names_of}
 use Rattle.module_area.specs.Area.{least_start}
 use Rattle.input_form.specs.declared.code.Code.{Code}
@@ -10,14 +9,12 @@ use Rattle.input_form.specs.Codes.{code_text}
 use Rattle.trace.specs.declared.traces.Item.{Item}
 use Rattle.trace.specs.declared.traces.Item.TheVariants as item
 use Rattle.trace.specs.declared.traces.Trace.{Trace}
-use Rattle.trace.specs.Formed.{IsFormedTrace}
 use Rattle.trace.specs.TraceReading.{trace_of}
 use Rattle.round_check.specs.Walk.{rounds_of}
 use Rattle.trace_play.specs.Machine.{Machine}
 use Rattle.trace_play.specs.Play.{Outcome, Played, item_played, nothing_played, play, refusal_of, run_text, section_len, trace_played, trace_text, unless_refused, unless_room}
 use Rattle.trace_play.specs.Answer.{RunAnswer, answered, checked_answer, formed_answer, refusal_text, run_answer}
 use Rattle.trace_play.specs.Answer as meaning
-use Rattle.plant.specs.Fresh.{FitsShape}
 use Rattle.plant.specs.Table.{PlantShown}
 use Rattle.profile_top.specs.declared.answer.Answer.{Answer}
 use Rattle.profile_top.specs.Answers.{Gives, Written, input_limit, refused}

@@ -1,5 +1,5 @@
 -- What is served is what is spelled out.
-use Rattle.std.proofs.Common.{◌≡◌, ◌≢◌, ℕ, ◌<◌, ◌≤◌, List, [], ◌∷◌, ap, sym, ◌∙◌, refl, subst, Option, Some, Bool, true, false, codes, Result, Ok, Err, length}
+use Rattle.std.proofs.Common.{◌≡◌, ◌≢◌, ℕ, List, [], ◌∷◌, ap, ◌∙◌, refl, Option, Bool, true, false, codes, Result, Ok, Err}
 use Rattle.std.specs.Prelude.{⊤, MatchResult, if◌then◌else◌}
 use Rattle.std.specs.Cmp.Lexicographic.{bytes_decides}
 use Rattle.std.specs.Io.KnownBytes.{Appends}

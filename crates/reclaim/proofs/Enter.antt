@@ -23,7 +23,7 @@ use Rattle.module_area.specs.Area.{Area, IsBook}
 use Rattle.module_area.proofs.BookLemmas.{KeepsRange}
 use Rattle.module_area.proofs.EntryLemmas.{find_some}
 use Rattle.module_list.specs.Listing as listing
-use Rattle.module_list.specs.Listing.{Listing, list_part, listing_of, record_in}
+use Rattle.module_list.specs.Listing.{Listing, listing_of, record_in}
 use Rattle.core_list.specs.ListState.{ListState, record_of, run_of}
 use Rattle.core_list.proofs.Kept.{IsBook-map}
 use Rattle.core_list.proofs.Listed.{listed_entered, listed_left, record_found}

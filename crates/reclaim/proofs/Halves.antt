@@ -1,16 +1,14 @@
 -- A reference that is shared out to two cells, for the tests: what is in hand between the four steps.
-use Rattle.std.proofs.Common.{◌≡◌, ℕ, ◌+◌, ◌-◌, ◌/◌, ◌%◌, ◌<◌, ◌==◌, true, false, IsTrue, Some, None, refl, ap, sym, ◌∙◌, subst, arith, inr}
+use Rattle.std.proofs.Common.{◌≡◌, ℕ, ◌+◌, ◌/◌, ◌%◌, ◌<◌, false, IsTrue, Some, None, ap, ◌∙◌, subst, arith}
 use Rattle.std.proofs.lemmas.Grind.{common_steps}
 use Rattle.tag_model.specs.declared.limits.TheConstants.{SIZE_END}
 use Rattle.tag_model.specs.declared.state.CpuPart.{CpuPart}
 use Rattle.tag_model.specs.declared.state.Hand.{Hand}
 use Rattle.tag_model.specs.declared.state.Held.{Held}
 use Rattle.tag_model.specs.declared.state.Held.TheVariants as held
-use Rattle.tag_model.specs.declared.state.Kind.{Kind}
-use Rattle.tag_model.specs.declared.state.Kind.TheVariants.{Bytes, Calls}
 use Rattle.tag_model.specs.declared.state.Tag.{Tag}
-use Rattle.tag_model.specs.Reference.{same_tag, held_fits, hand_fits, held_counts_of, hand_counts_of}
-use Rattle.tag_model.specs.StepRules.{AddsCall, WritesPlace}
+use Rattle.tag_model.specs.Reference.{held_fits}
+use Rattle.tag_model.specs.StepRules.{AddsCall}
 use Rattle.tag_rule.specs.Shown.{CpuShown}
 use Rattle.tag_rule.specs.Steps.{with_hand, hand_after}
 use Rattle.tag_ref.proofs.Halves.{parted_hand, two_calls}

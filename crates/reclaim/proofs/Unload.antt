@@ -34,7 +34,6 @@ use Rattle.reclaim.specs.declared.answers.Reclaim.TheVariants.{Kept, Released}
 use Rattle.reclaim.specs.declared.answers.UnloadError.{UnloadError}
 use Rattle.reclaim.specs.Refusals.{refused, unload_refusal}
 use Rattle.std.proofs.lemmas.Option.{none-some, same_Some}
-use Rattle.module_area.proofs.EntryLemmas.{find_some}
 use Rattle.tag_rule.specs.Listed.{is_unused}
 use Rattle.reclaim.specs.State.{LockedShown, IsLocked, IsNamed, part_of, is_still}
 use Rattle.reclaim.specs.Steps.{Reads, with_listing}

@@ -1,5 +1,5 @@
 -- A load at a place of a checked trace.
-use Rattle.std.proofs.Common.{◌≡◌, ℕ, ◌+◌, ◌<◌, ◌≤◌, Bool, true, false, not, List, [], ◌∷◌, ◌++◌, length, Option, Some, None, Result, Ok, IfOk, All, is_some, refl, sym, ap, ◌∙◌, subst, arith, length-append, lt-ltb}
+use Rattle.std.proofs.Common.{◌≡◌, ℕ, ◌+◌, ◌<◌, ◌≤◌, Bool, true, false, not, List, [], ◌∷◌, ◌++◌, length, Option, Some, None, Result, Ok, All, is_some, refl, sym, ap, ◌∙◌, subst, arith, length-append, lt-ltb}
 use Rattle.std.specs.Prelude.{◌&&◌, if◌then◌else◌, nat_lt}
 use Rattle.std.specs.Option.{option_map}
 use Rattle.std.proofs.lemmas.Result.{IfOk-at_ok}
@@ -24,7 +24,7 @@ use Rattle.trace.specs.declared.traces.Item.TheVariants as item
 use Rattle.trace.specs.Formed.{IsFormedItem}
 use Rattle.round_check.specs.declared.walk.Walk.{Walk}
 use Rattle.round_check.specs.Formed.{FitsItem}
-use Rattle.round_check.specs.Walk.{load_module, module_at, rounds_of, start, walk_item, walk_items}
+use Rattle.round_check.specs.Walk.{load_module, rounds_of, start, walk_item, walk_items}
 use Rattle.round_check.proofs.Pairs.{all_behind, all_front, fits_item, items_behind}
 use Rattle.trace_play.specs.Machine.{machine_of}
 use Rattle.trace_play.specs.Play.{nothing_played, section_len}

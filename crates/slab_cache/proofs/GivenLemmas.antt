@@ -11,7 +11,6 @@ use Rattle.std.proofs.lemmas.Option.{none-some, same_Some, slice_get_within}
 use Rattle.tag_model.specs.declared.state.Tag.{Tag}
 use Rattle.tag_model.specs.declared.state.Held.{Held}
 use Rattle.tag_model.specs.declared.state.Held.TheVariants as held
-use Rattle.tag_model.specs.Index.{object_index}
 use Rattle.tag_model.specs.Moves.{Move}
 use Rattle.tag_model.specs.Shape.{IsChecked}
 use Rattle.tag_model.specs.RefMoves.{open_moves, reference_to, words_after_move}
@@ -29,7 +28,7 @@ use Rattle.slab_cache.specs.Giving.{Given, block_from, given_block, object_from,
 use Rattle.slab_cache.specs.Shown.{IsNow, IsOfTable, SlabNodeShown, SlabShown, Stands, Suits, cell_of, state_of, storage_of, with_reference}
 use Rattle.slab_cache.specs.Slabs.{NodeState, Slab, free_place, is_open, lowest_vector, new_slab, open_frame, with_pages, slab_at, slab_held, slab_tag, with_place, with_slab, with_vector}
 use Rattle.slab_cache.specs.Storage as storage
-use Rattle.slab_cache.specs.Storage.{Storage, held_of, object_at}
+use Rattle.slab_cache.specs.Storage.{held_of, object_at}
 use Rattle.slab_cache.specs.Tables.{AreSlabs, IsOpenAt, IsSlabAt, TakesPlace, is_open_slab, place_in, slab_in, with_slab_state}
 use Rattle.slab_cache.specs.declared.object.Obj.{Obj}
 use Rattle.slab_cache.specs.declared.object.Stored.TheVariants.{Pages, InSlab}

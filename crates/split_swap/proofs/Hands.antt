@@ -1,5 +1,5 @@
 -- What is in hand while a reference is shared out or exchanged, and that each write may be taken.
-use Rattle.std.proofs.Common.{◌≡◌, ℕ, ◌+◌, ◌-◌, ◌<◌, ◌==◌, true, false, IsTrue, Option, Some, None, ◌⊎◌, refl, ap, sym, ◌∙◌, subst, arith, inl, inr}
+use Rattle.std.proofs.Common.{◌≡◌, ℕ, ◌+◌, ◌-◌, ◌==◌, true, false, IsTrue, Option, Some, None, ◌⊎◌, refl, ap, sym, ◌∙◌, subst, arith, inl, inr}
 use Rattle.std.proofs.lemmas.Bool.{and_parts, eqb-true, cases_Bool, both_ways}
 use Rattle.std.proofs.lemmas.Grind.{common_steps}
 use Rattle.tag_model.specs.declared.state.CpuPart.{CpuPart}
@@ -7,13 +7,13 @@ use Rattle.tag_model.specs.declared.state.Hand.{Hand}
 use Rattle.tag_model.specs.declared.state.Held.{Held}
 use Rattle.tag_model.specs.declared.state.Held.TheVariants as held
 use Rattle.tag_model.specs.declared.state.Kind.{Kind}
-use Rattle.tag_model.specs.declared.state.Kind.TheVariants.{Bytes, Calls}
+use Rattle.tag_model.specs.declared.state.Kind.TheVariants.{Calls}
 use Rattle.tag_model.specs.declared.state.Tag.{Tag}
 use Rattle.tag_model.specs.Reference.{same_tag, held_fits, hand_fits, is_settled, held_counts_of, hand_counts_of}
 use Rattle.tag_model.specs.RefMoves.{split_moves}
 use Rattle.tag_model.specs.StepRules.{AddsCall, WritesPlace, raised}
 use Rattle.tag_model.proofs.MovedWords.{raises_is}
-use Rattle.tag_rule.specs.Shown.{Board, CpuShown}
+use Rattle.tag_rule.specs.Shown.{CpuShown}
 use Rattle.tag_rule.specs.Steps.{with_hand, hand_after}
 use Rattle.tag_ref.specs.Refs.{moved_by}
 use Rattle.tag_ref.proofs.Halves.{parted_hand, two_calls}

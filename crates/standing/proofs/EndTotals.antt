@@ -1,5 +1,5 @@
 -- The words of all CPUs of a table, added, where they are what a machine's moves make of words of 0.
-use Rattle.std.proofs.Common.{◌≡◌, ℕ, zero, suc, ◌+◌, ◌<◌, ◌≤◌, Bool, true, false, cond, ltb, List, [], ◌∷◌, length, map, refl, sym, ap, ap₂, ◌∙◌, arith, le-ltb, ⊎_elim}
+use Rattle.std.proofs.Common.{◌≡◌, ℕ, ◌+◌, ◌<◌, ◌≤◌, Bool, true, false, cond, ltb, List, [], ◌∷◌, length, map, refl, sym, ap, ◌∙◌, arith, le-ltb, ⊎_elim}
 use Rattle.std.specs.Prelude.{slice_index, slice_set, ◌*◌, ◌==◌, replicate, sum_by}
 use Rattle.std.specs.List.{range_with_len}
 use Rattle.std.proofs.lemmas.Bool.{cases_lt}

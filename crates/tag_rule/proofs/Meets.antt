@@ -1,5 +1,5 @@
 -- Parts that stand in some safe state: what becomes of them, and what the state tells of them.
-use Rattle.std.proofs.Common.{◌≡◌, ℕ, ◌+◌, ◌-◌, List, [], ◌∷◌, ◌++◌, refl, subst, arith, true}
+use Rattle.std.proofs.Common.{◌≡◌, ℕ, ◌+◌, ◌-◌, List, [], ◌∷◌, ◌++◌, subst, arith, true}
 use Rattle.std.specs.List.{range_with_len}
 use Rattle.std.proofs.lemmas.List.Sums.{sum_by-append, sum_by-cons}
 use Rattle.atomic_table.specs.Table.{Me}
@@ -22,7 +22,6 @@ use Rattle.tag_rule.specs.Rule.{Moves, Tells, view_of}
 use Rattle.tag_rule.specs.Seated.{ListHolds, cell_parts, list_in}
 use Rattle.tag_rule.specs.Shown.{ListShown}
 use Rattle.tag_rule.specs.Tokens.{board_of}
-use Rattle.tag_rule.proofs.Keeps.{same_moves, same_parts}
 use Rattle.tag_rule.proofs.Tellings.{list_holds, tells_after}
 
 -- what a seat knows

@@ -25,7 +25,7 @@ use Rattle.tag_rule.specs.Tokens.{board_of, IsCellPool}
 use Rattle.tag_rule.specs.Fresh.{empty_cell, places}
 use Rattle.tag_rule.specs.Rule.{view_of, Moves, Tells}
 use Rattle.tag_rule.specs.Seated.{cells_in, cell_parts, CellHolds, CellsHold}
-use Rattle.tag_rule.proofs.Keeps.{same_moves, same_parts}
+use Rattle.tag_rule.proofs.Keeps.{same_parts}
 use Rattle.tag_rule.proofs.Runs.{outside, sum_outside, has_outside, has_range, all_outside, count_outside, has_once, all_has}
 
 -- ---- the cells of a seat

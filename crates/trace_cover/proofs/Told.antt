@@ -2,7 +2,7 @@
 use Rattle.std.proofs.Common.{◌≡◌, ℕ, ◌+◌, ◌<◌, ◌≤◌, Bool, true, false, List, [], ◌∷◌, ◌++◌, length, map, Option, Some, None, Ok, refl, sym, ◌∙◌, subst, arith, lt-ltb}
 use Rattle.std.proofs.lemmas.Bool.{and_from, or_left}
 use Rattle.std.specs.Prelude.{◌&&◌}
-use Rattle.std.specs.List.{enumerate_from, find, flat_map, list_all, range_with_len}
+use Rattle.std.specs.List.{enumerate_from, find, flat_map, list_all}
 use Rattle.std.proofs.lemmas.List.Folds.{list_all-append}
 use Rattle.input_form.specs.declared.code.Code.{Code}
 use Rattle.tag_model.specs.declared.state.Held.{Held}
@@ -25,7 +25,7 @@ use Rattle.round_check.specs.Walk.{rounds_of, walk_item, walk_ops}
 use Rattle.round_check.proofs.Passed.{Fits}
 use Rattle.trace_play.specs.Live.{Content, Live, Nothing, Stored}
 use Rattle.trace_play.specs.Machine.{Machine, content_cell, live_cells, slab_cell, slab_cells}
-use Rattle.trace_play.specs.Barrier.{all_home, cpu_done, cpus_done, module_done, modules_done, none_on_its_way, on_its_way, round_done, storage_home}
+use Rattle.trace_play.specs.Barrier.{all_home, cpus_done, module_done, modules_done, none_on_its_way, on_its_way, round_done, storage_home}
 use Rattle.trace_play.specs.Play.{Outcome, Played, item_played, nothing_played, play, played_so_far, refusal_of, section_len}
 use Rattle.trace_play.specs.Worker.{Seat}
 use Rattle.trace_play.specs.Ready.{IsReady, runs_inside}

@@ -9,7 +9,7 @@ use Rattle.tag_model.specs.Moves.{Move}
 use Rattle.tag_model.specs.RefMoves.{close_moves, split_moves, trim_moves, trimmed}
 use Rattle.module_area.specs.declared.entry.Entry.{Entry}
 use Rattle.slab_cache.specs.Storage as storage
-use Rattle.slab_cache.specs.Storage.{Storage, has_cell, home_of}
+use Rattle.slab_cache.specs.Storage.{Storage, home_of}
 use Rattle.slab_cache.specs.Giving.{Given}
 use Rattle.slab_cache.specs.Homing.{come_home}
 use Rattle.trace.specs.declared.traces.TraceOp.{TraceOp}

@@ -10,7 +10,7 @@ use Rattle.tag_model.specs.Index.{Slot, Word, Page, Object}
 use Rattle.slab_cache.specs.Classes.{slab_order}
 use Rattle.slab_cache.specs.Slabs.{Slab, slab_held}
 use Rattle.slab_cache.specs.Storage as storage
-use Rattle.slab_cache.specs.Storage.{Storage, home_of}
+use Rattle.slab_cache.specs.Storage.{Storage}
 use Rattle.trace_play.specs.Live.{Content, Nothing, Stored, Live}
 use Rattle.trace_play.specs.Worker.{Seat}
 use Rattle.trace_play.specs.Machine.{Machine, fresh_seat, seat_at, content_cell, slab_cell, slab_cells}

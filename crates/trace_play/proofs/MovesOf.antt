@@ -1,57 +1,28 @@
 -- Whose the moves are that a CPU's ops make: the CPU's own.
-use Rattle.std.proofs.Common.{T, ◌≡◌, ◌≢◌, ℕ, zero, suc, ◌+◌, ◌-◌, ◌*◌, ◌%◌, ◌^◌, ◌<◌, ◌≤◌, Bool, true, false, cond, eqb, leb, ltb, List, [], ◌∷◌, ◌++◌, length, Option, Some, None, Ok, refl, sym, ap, ◌∙◌, subst, arith, eqb-true, lt-ltb, le-leb, ltb-true, ltb-false, leb-true, leb-false, add-zero}
-use Rattle.std.specs.Prelude.{◌&&◌, fold, sum_by, if◌then◌else◌}
+use Rattle.std.proofs.Common.{◌≡◌, ℕ, ◌+◌, ◌-◌, ◌*◌, Bool, true, false, cond, List, [], ◌∷◌, ◌++◌, Option, Some, None, refl, sym, ap, ◌∙◌, subst}
+use Rattle.std.specs.Prelude.{◌&&◌}
 use Rattle.std.specs.Bool.{⊤}
-use Rattle.std.specs.List.{list_all, range_with_len}
+use Rattle.std.specs.List.{list_all}
 use Rattle.std.specs.Option.{option_map}
-use Rattle.std.proofs.lemmas.Bool.{eqb-false, and_parts}
-use Rattle.std.proofs.lemmas.List.{length-set}
-use Rattle.std.proofs.lemmas.List.FromFn.{length-map-range_with_len}
 use Rattle.std.proofs.lemmas.List.Folds.{list_all-append}
-use Rattle.std.proofs.lemmas.List.Sums.{sum_by-cons}
 use Rattle.tag_model.specs.declared.state.Tag.{Tag}
 use Rattle.tag_model.specs.declared.state.Held.{Held}
 use Rattle.tag_model.specs.declared.state.Held.TheVariants as held
-use Rattle.tag_model.specs.declared.state.Kind.{Kind}
-use Rattle.tag_model.specs.declared.state.Kind.TheVariants.{Bytes, Calls}
-use Rattle.tag_model.specs.Laws.{same_kind}
-use Rattle.tag_model.specs.Wrap.{wrap, wrap_minus}
-use Rattle.tag_model.specs.Moves.{Move, is_on}
-use Rattle.tag_model.specs.RefMoves.{open_moves, close_moves, split_moves, trim_moves, is_under, all_up, all_down}
+use Rattle.tag_model.specs.Moves.{Move}
+use Rattle.tag_model.specs.RefMoves.{open_moves, close_moves, split_moves, trim_moves}
 use Rattle.module_area.specs.declared.entry.Entry.{Entry}
 use Rattle.slab_cache.specs.Classes.{class_of, slab_order}
 use Rattle.slab_cache.specs.Classes as classes
 use Rattle.slab_cache.specs.Slabs.{Slab, NodeState, slab_at, with_slab, with_pages, lowest_vector, open_frame, with_place, is_used, slab_held}
-use Rattle.slab_cache.specs.Storage.{Storage, Pages, Object, Uncounted, home_of}
+use Rattle.slab_cache.specs.Storage.{Storage, Pages, Object, Uncounted}
 use Rattle.slab_cache.specs.Giving.{Given, given_block, given_object, block_from, object_from, with_new_slab, object_from_new, slab_or_new, object_or_block, start_in}
 use Rattle.slab_cache.specs.Homing.{Taken, come_home, place_home, without_slab}
-use Rattle.trace.specs.declared.traces.Item.{Item}
 use Rattle.trace.specs.declared.traces.Item.TheVariants as item
-use Rattle.trace.specs.declared.traces.OnOp.{OnOp}
-use Rattle.trace.specs.declared.traces.Trace.{Trace}
 use Rattle.trace.specs.declared.traces.TraceOp.{TraceOp}
 use Rattle.trace.specs.declared.traces.TraceOp.TheVariants as op
-use Rattle.trace.specs.Formed.{IsFormedItem, IsFormedTrace}
-use Rattle.round_check.specs.declared.walk.Walk.{Walk}
-use Rattle.round_check.specs.Formed.{FitsItem}
-use Rattle.round_check.specs.Walk.{begun, walk_item, rounds_of}
 use Rattle.trace_play.specs.Live.{Content, Nothing, Stored, put, content_at, held_of, without}
 use Rattle.trace_play.specs.Worker.{WorkerState, cpu_of, current_tag, with_moves, with_node, with_live, one_given, allocated, is_home, given_back, with_taken, sent_home, done, all_done}
-use Rattle.trace_play.specs.Machine.{Machine, live_cells, fresh_seat, seat_at, worker_at}
-use Rattle.trace_play.specs.Barrier.{ops_of, cpus_done, modules_done, on_its_way, none_on_its_way, storage_home, all_home}
-use Rattle.trace_play.specs.Play.{Played, item_played, played_so_far}
-use Rattle.trace_play.specs.Alone.{rises}
-use Rattle.trace_play.specs.Fits.{AllFit}
-use Rattle.trace_play.specs.Sound.{IsSound}
-use Rattle.tag_model.specs.Reference.{live_total}
-use Rattle.trace_play.specs.Printed.{tag_row}
-use Rattle.trace_play.specs.Totals.{IsAccounted, TellsLive, words_total}
-use Rattle.trace_play.proofs.Rising.{modules_live, worker_rises}
 use Rattle.trace_play.proofs.NodeLemmas.{cpu_of_vector}
-use Rattle.trace_play.proofs.WorkerSound.{AllSound, worker_sum, step_sound}
-use Rattle.trace_play.proofs.MachineSound.{elsewhere, to_worker, turns, item_sound, first_sound, after_items, OnTheWay, home_low, one_home, sets_out, same_parts}
-use Rattle.trace_play.proofs.TraceFits.{Between, fits_of_round, modules_seats, round_count}
-use Rattle.trace_play.proofs.TotalsHold.{accounted, modules_tally, totals_after}
 
 -- ---- moves of CPUs that pass a test
 

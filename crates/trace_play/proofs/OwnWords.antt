@@ -1,6 +1,6 @@
 -- Each CPU's words behind the ops of a round are those that its own worker's moves make of its words before.
-use Rattle.std.proofs.Common.{◌≡◌, ◌≢◌, ℕ, zero, suc, ◌+◌, ◌<◌, ◌≤◌, Bool, true, false, cond, eqb, List, [], ◌∷◌, ◌++◌, length, refl, sym, ap, ◌∙◌, subst, arith, eqb-true, eq-eqb, ne_eqb}
-use Rattle.std.specs.Prelude.{slice_index, slice_set, ◌&&◌, fold, Option, Some, None}
+use Rattle.std.proofs.Common.{◌≡◌, ◌≢◌, ℕ, zero, suc, ◌+◌, ◌<◌, ◌≤◌, Bool, true, false, cond, eqb, List, [], ◌∷◌, length, refl, sym, ap, ◌∙◌, arith, eqb-true, eq-eqb, ne_eqb}
+use Rattle.std.specs.Prelude.{slice_index, slice_set, fold, Option, Some, None}
 use Rattle.std.specs.List.{list_all, range_with_len}
 use Rattle.std.proofs.lemmas.Bool.{eqb-false, and_parts}
 use Rattle.std.proofs.lemmas.List.Sums.{fold-append}
@@ -17,10 +17,10 @@ use Rattle.slab_cache.specs.Giving.{Given}
 use Rattle.slab_cache.specs.Homing.{come_home}
 use Rattle.slab_cache.specs.Storage.{Storage, Pages, Object, Uncounted}
 use Rattle.trace_play.specs.Live.{Content, Nothing, Stored, content_at, held_of, put, without}
-use Rattle.trace_play.specs.Worker.{Tally, WorkerState, all_done, allocated, cpu_of, current_tag, done, given_back, is_home, one_given, sent_home, with_live, with_moves, with_node, with_taken}
-use Rattle.trace_play.specs.Machine.{Machine, nothing_done, seat_at, worker_at}
+use Rattle.trace_play.specs.Worker.{Tally, WorkerState, all_done, allocated, cpu_of, done, given_back, is_home, one_given, sent_home, with_live, with_moves, with_node, with_taken}
+use Rattle.trace_play.specs.Machine.{Machine, seat_at, worker_at}
 use Rattle.trace_play.specs.Barrier.{cpus_done, ops_of}
-use Rattle.trace_play.specs.Alone.{alone, given_back as machine_given, rises, side_by_side, worker_done, NamesItsOwn, NoneShared}
+use Rattle.trace_play.specs.Alone.{alone, given_back as machine_given, rises, worker_done, NamesItsOwn, NoneShared}
 use Rattle.trace_play.proofs.MovesOf.{AreOf, all_of}
 use Rattle.trace_play.proofs.SideBySide.{are_side_by_side}
 

@@ -2,7 +2,6 @@
 use Rattle.std.proofs.Common.{◌≡◌, ℕ, ◌+◌, ◌-◌, ◌<◌, ◌≤◌, Bool, true, false, not, ◌||◌, eqb, leb, ltb, List, [], ◌∷◌, length, Option, Some, None, Result, Ok, IfOk, refl, ap, ◌∙◌, subst, ltb-true, leb-true, eqb-true}
 use Rattle.std.specs.Prelude.{is_none, count_by}
 use Rattle.std.specs.List.{range_with_len, list_any}
-use Rattle.std.specs.Option.{ok_or}
 use Rattle.std.proofs.lemmas.Result.{IfOk-at_ok}
 use Rattle.input_form.specs.declared.code.Code.{Code}
 use Rattle.input_form.specs.declared.code.Code.TheVariants as code

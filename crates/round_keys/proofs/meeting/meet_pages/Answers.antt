@@ -1,4 +1,4 @@
-use Rattle.std.proofs.Common.{ℕ, List, [], Option, ◌≡◌, ◌<◌, ◌+◌, get_or, length, ltb, map, subst, sym, ap, ◌∙◌, arith}
+use Rattle.std.proofs.Common.{List, [], Option, ◌≡◌, get_or, ltb, map, subst, sym, ap, ◌∙◌, arith}
 use Rattle.std.proofs.lemmas.Bool.{ltb-true, ltb-false}
 use Rattle.std.proofs.Math.Seq.{map-set_same}
 use Rattle.reclaim.specs.State.{LockedShown}

@@ -1,14 +1,8 @@
-use Rattle.std.proofs.Common.{◌≡◌, ℕ, ◌<◌, ◌≤◌, All, IsTrue, None, List, length, slice_index_or, refl, ap, sym, ◌∙◌, subst, arith}
-use Rattle.std.proofs.lemmas.Grind.{common_steps}
-use Rattle.std.proofs.lemmas.List.FromFn.{get_or-map-range_with_len, length-map-range_with_len}
-use Rattle.std.specs.List.{range_with_len}
+use Rattle.std.proofs.Common.{◌≡◌, ◌<◌, ◌≤◌, All, None, length, ap, sym, ◌∙◌, subst, arith}
 use Rattle.tag_model.specs.declared.shape.Shape.{Shape}
-use Rattle.tag_model.specs.Index.{page_index}
-use Rattle.tag_model.specs.WordState.{in_range}
 use Rattle.tag_rule.specs.declared.making.Seats.{Seats}
-use Rattle.tag_rule.specs.Fresh.{fresh_cpu}
 use Rattle.tag_rule.specs.Made.{AreFresh}
-use Rattle.tag_rule.specs.Shown.{Board, CellShown, CpuShown, ListShown, PoolShown, has}
+use Rattle.tag_rule.specs.Shown.{Board, CellShown, CpuShown, PoolShown}
 use Rattle.tag_rule.proofs.NewTable.{cpu_at, cpus_long, first_pool, list_there, pages_long, pool_has}
 use Rattle.percpu_words.proofs.tests.desk.new_plant.Goals as goal
 

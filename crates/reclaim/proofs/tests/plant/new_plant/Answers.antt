@@ -1,14 +1,10 @@
-use Rattle.std.proofs.Common.{◌≡◌, ℕ, ◌<◌, ◌≤◌, All, IsTrue, List, [], ◌∷◌, length, map, slice_index_or, refl, ap, sym, ◌∙◌, subst, arith}
-use Rattle.std.proofs.lemmas.Grind.{common_steps}
-use Rattle.std.proofs.lemmas.List.FromFn.{get_or-map-range_with_len, length-map-range_with_len}
+use Rattle.std.proofs.Common.{◌≡◌, ℕ, ◌<◌, All, List, [], ◌∷◌, length, map, refl, ap, sym, ◌∙◌, subst, arith}
 use Rattle.std.specs.List.{range_with_len}
 use Rattle.tag_model.specs.declared.shape.Shape.{Shape}
-use Rattle.tag_model.specs.Index.{page_index}
-use Rattle.tag_model.specs.WordState.{in_range}
 use Rattle.tag_rule.specs.declared.making.Seats.{Seats}
 use Rattle.tag_rule.specs.Fresh.{fresh_cpu}
 use Rattle.tag_rule.specs.Made.{AreFresh}
-use Rattle.tag_rule.specs.Shown.{Board, CellShown, CpuShown, ListShown, PassShown, PoolShown, has}
+use Rattle.tag_rule.specs.Shown.{Board, CellShown, CpuShown, PassShown, PoolShown}
 use Rattle.tag_rule.proofs.NewTable.{cpu_at, cpus_long, first_pool, list_there, pages_long, pool_has}
 use Rattle.reclaim.specs.State.{LockedShown}
 use Rattle.reclaim.proofs.tests.plant.new_plant.Goals as goal

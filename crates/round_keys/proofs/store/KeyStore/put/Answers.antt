@@ -1,4 +1,4 @@
-use Rattle.std.proofs.Common.{ap, length, nat_cmp, ◌∙◌, ◌<◌, ◌/◌, ◌≡◌}
+use Rattle.std.proofs.Common.{ap, nat_cmp, ◌∙◌}
 use Rattle.std.specs.FinMap.Entries.{put}
 use Rattle.round_worker.specs.Kept.{KeyList}
 use Rattle.round_worker.proofs.KeptLemmas.{on_ok}
