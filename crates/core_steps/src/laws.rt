@@ -23,6 +23,8 @@ ghost use Rattle.cpu_ops.specs.Machine.{hand_at, held_at, waiting_at, step_count
 ghost use Rattle.core_steps.specs.CoreState.{CoreState, IsCore, refused, stepped, word_state, total_of};
 ghost use Rattle.core_steps.specs.declared.op.Actor.{Actor};
 ghost use Rattle.core_steps.specs.RefOps.{MayDoIf, done_if, ref_op};
+ghost use Rattle.core_steps.specs.Release.{IsReleasable, NothingNames};
+ghost use Rattle.module_area.specs.declared.entry.State.TheVariants.{Dead};
 ghost use Rattle.core_steps.specs.StepsLeft.{steps_left};
 ghost use Rattle.tag_model.specs.ListMachine.{in_order};
 ghost use Rattle.core_steps.specs.Laws.{Begins, IsIdle, SameQueue, waits_for, after_steps, moves_of_run, call_move};
@@ -90,4 +92,13 @@ pub fn ops_are_those_of_the_list_machine()
     ensures in_order { (s : CoreState) → IsTrue (in_order (live_of (word_state s))) }
     ensures may { (s : CoreState) (cpu : ℕ) (op : CpuOp) (ops : List CpuOp) → IsCore s → Begins s cpu op ops → MayDoIf (ref_op (inside_at s.modules cpu) op) (live_of (word_state s)) }
     ensures done { (s : CoreState) (cpu : ℕ) (op : CpuOp) (ops : List CpuOp) → IsCore s → Begins s cpu op ops → live_of (word_state (after_steps s cpu (step_count op))) ≡ done_if (ref_op (inside_at s.modules cpu) op) (live_of (word_state s)) }
+{}
+
+/// What a release finds, in plain words: the module is dead, and each reference and each hand is of another module and of a
+/// tag outside its range.
+pub fn a_release_finds_nothing_in_a_core()
+    ensures dead { (s : CoreState) (section : ℕ) (r : IsReleasable s section) → r.entry.state ≡ Dead }
+    ensures free { (s : CoreState) (section : ℕ) (r : IsReleasable s section) → NothingNames s r.entry }
+    ensures places { (s : CoreState) (e : Entry) (key size : ℕ) (tag : Tag) → NothingNames s e → held_at s.machine.places key ≡ held.Counted tag size → (tag.module ≢ e.id) × (e.start ≤ tag.number → ¬ (tag.number < e.start + e.length)) }
+    ensures hands { (s : CoreState) (e : Entry) (cpu : ℕ) (hand : Hand) → NothingNames s e → hand_at s.machine cpu ≡ Some hand → (hand.tag.module ≢ e.id) × (e.start ≤ hand.tag.number → ¬ (hand.tag.number < e.start + e.length)) }
 {}

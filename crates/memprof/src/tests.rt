@@ -42,3 +42,19 @@ fn answers(rt: HostRuntime) -> Result<(), Fail> {
     }
     Ok(())
 }
+
+#[test]
+fn complaints(rt: HostRuntime) -> Result<(), Fail> {
+    for (status, said) in [
+        (0, None),
+        (1, None),
+        (2, Some("memprof: usage")),
+        (3, Some("memprof: out of memory")),
+        (4, Some("memprof: read fault")),
+        (5, Some("memprof: write fault")),
+        (6, None),
+    ] {
+        assert!(rt; complaint(status) == said, "{status}");
+    }
+    Ok(())
+}
