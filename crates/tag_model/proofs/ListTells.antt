@@ -45,7 +45,7 @@ all_each {X} p xs h = go (cases_lt 0 (count_by (λ (x : X). not (p x)) xs))
     go (inr none) = told.none_fail p xs (omega arith)
 
 -- a record's users are those of its id
-users_here : (k : Shape) (l : ListPart) → ListLaws k l → (front : List Record) (r : Record) (back : List Record) → l.records ≡ front ++ r ∷ back → users_of r.id (Modules l) ≡ r.users
+pub users_here : (k : Shape) (l : ListPart) → ListLaws k l → (front : List Record) (r : Record) (back : List Record) → l.records ≡ front ++ r ∷ back → users_of r.id (Modules l) ≡ r.users
 users_here k l laws front r back is =
     subst (λ rs. sum_by (λ (x : Record). if x.id == r.id then x.users else 0) rs ≡ r.users) (sym is)
     (field_here (λ (x : Record). x.users) front r back r.id refl (subst (λ rs. count_by (λ (x : Record). x.id == r.id) rs ≤ 1) is (laws.apart r.id)))

@@ -1,7 +1,7 @@
 -- The module list's records: which range a tag lies in, and that a swept tag lies in a dead record's range.
-use Rattle.std.proofs.Common.{◌≡◌, ℕ, ◌+◌, ◌<◌, ◌≤◌, ◌==◌, ◌&&◌, ◌||◌, nat_lt, nat_le, List, sum_by, count_by, refl, sym, ap, subst, arith, Bool, true, false, not, eqb-true, ltb-true, leb-true, eq-eqb, le-leb, lt-ltb, if◌then◌else◌}
-use Rattle.std.specs.List.{list_any, list_all}
-use Rattle.std.proofs.lemmas.Bool.{and_parts, and_from, false≢true, true_from_ne_false}
+use Rattle.std.proofs.Common.{◌≡◌, ℕ, ◌+◌, ◌<◌, ◌≤◌, ◌==◌, ◌&&◌, ◌||◌, nat_lt, nat_le, List, sum_by, count_by, refl, sym, ap, subst, arith, Bool, true, false, not, eqb-true, ltb-true, leb-true, eq-eqb, le-leb, lt-ltb, if◌then◌else◌, zero, suc, inl, inr, ◌∙◌}
+use Rattle.std.specs.List.{list_any, list_all, range_with_len}
+use Rattle.std.proofs.lemmas.Bool.{and_parts, and_from, cases_eq, false≢true, true_from_ne_false}
 use Rattle.std.proofs.lemmas.List.Sums.{sum_by-le-sum_by}
 use Rattle.tag_model.specs.declared.shape.Shape.{Shape}
 use Rattle.tag_model.specs.declared.state.Kind.{Kind}
@@ -146,3 +146,17 @@ records_more_at p q h (NextId id) = omega arith
 
 pub records_more : (p q : Record → Bool) (ps : List Part) → ((r : Record) → p r ≡ true → q r ≡ true) → sum_by (records_with p) ps ≤ sum_by (records_with q) ps
 records_more p q ps h = sum_by-le-sum_by (records_with p) (records_with q) ps (records_more_at p q h)
+
+-- what holds of each number of a range, and the other way
+pub all_range : (p : ℕ → Bool) (first count : ℕ) → ((n : ℕ) → first ≤ n → n < first + count → p n ≡ true) → list_all p (range_with_len first count) ≡ true
+all_range p first zero h = refl
+all_range p first (suc count) h = and_from _ _ (h first (omega arith) (omega arith)) (all_range p (first + 1) count (λ n low high. h n (omega arith) (omega arith)))
+
+pub range_at : (p : ℕ → Bool) (first count n : ℕ) → list_all p (range_with_len first count) ≡ true → first ≤ n → n < first + count → p n ≡ true
+range_at p first zero n all above below = absurd (omega arith)
+range_at p first (suc count) n all above below =
+    let both = and_parts (p first) (list_all p (range_with_len (first + 1) count)) all in
+    elim (cases_eq first n) [
+      | inl same ↦ ap p (sym same) ∙ both.0
+      | inr apart ↦ range_at p (first + 1) count n both.1 (omega arith) (omega arith)
+    ]

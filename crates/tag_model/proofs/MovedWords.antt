@@ -12,6 +12,7 @@ use Rattle.tag_model.specs.RefMoves.{raises, lowers, words_after_move, words_aft
 use Rattle.tag_model.specs.WordState.{word_place}
 use Rattle.tag_model.specs.Wrap.{wrap, wrap_minus}
 use Rattle.tag_model.proofs.Words.{by_word, word_within}
+use Rattle.tag_model.proofs.ListRows.{same_kind_refl}
 
 up_on : ℕ → Kind → ℕ → Move → ℕ
 up_on cpu kind t m = cond (is_on cpu kind t m) m.up 0
@@ -19,7 +20,7 @@ up_on cpu kind t m = cond (is_on cpu kind t m) m.up 0
 down_on : ℕ → Kind → ℕ → Move → ℕ
 down_on cpu kind t m = cond (is_on cpu kind t m) m.down 0
 
-joined : (U D u d : ℕ) → wrap_minus (U + u) (D + d) ≡ wrap_minus (wrap_minus U D + u) d
+pub joined : (U D u d : ℕ) → wrap_minus (U + u) (D + d) ≡ wrap_minus (wrap_minus U D + u) d
 joined U D u d = omega arith
 
 still : (U D : ℕ) → wrap_minus U D ≡ wrap_minus (wrap_minus U D + 0) 0
@@ -32,10 +33,6 @@ moved_more cpu kind t before m =
     let up : sum_by (up_on cpu kind t) (before ++ m ∷ []) ≡ sum_by (up_on cpu kind t) before + up_on cpu kind t m = sum_by-append (up_on cpu kind t) before (m ∷ []) ∙ ap (λ n. sum_by (up_on cpu kind t) before + n) (sum_by-cons (up_on cpu kind t) m [] ∙ omega arith) in
     let down : sum_by (down_on cpu kind t) (before ++ m ∷ []) ≡ sum_by (down_on cpu kind t) before + down_on cpu kind t m = sum_by-append (down_on cpu kind t) before (m ∷ []) ∙ ap (λ n. sum_by (down_on cpu kind t) before + n) (sum_by-cons (down_on cpu kind t) m [] ∙ omega arith) in
     rw (up, down) (joined (sum_by (up_on cpu kind t) before) (sum_by (down_on cpu kind t) before) (up_on cpu kind t m) (down_on cpu kind t m))
-
-same_as_itself : (kind : Kind) → same_kind kind kind ≡ true
-same_as_itself Bytes = refl
-same_as_itself Calls = refl
 
 tag_as_itself : (t : ℕ) → (t == t) ≡ true
 tag_as_itself t = grind arith
@@ -62,7 +59,7 @@ moved_here : (cpu : ℕ) (w : ℕ) (before : List Move) (m : Move) → m.cpu ≡
 unfolding up_on down_on
 moved_here cpu w before m own is =
     let mine : (m.cpu == cpu) ≡ true = grind arith in
-    let on : is_on cpu m.kind m.tag m ≡ true = rw (mine, same_as_itself m.kind, tag_as_itself m.tag) refl in
+    let on : is_on cpu m.kind m.tag m ≡ true = rw (mine, same_kind_refl m.kind, tag_as_itself m.tag) refl in
     let up : up_on cpu m.kind m.tag m ≡ m.up = ap (λ b. cond b m.up 0) on in
     let down : down_on cpu m.kind m.tag m ≡ m.down = ap (λ b. cond b m.down 0) on in
     ap (λ x. wrap_minus (x + m.up) m.down) is ∙ sym (moved_more cpu m.kind m.tag before m ∙ rw (up, down) refl)

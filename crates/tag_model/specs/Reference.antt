@@ -1,5 +1,5 @@
 -- References, hands, and what they count. A reference's size is from 1 to 2^44 - 1.
-use Rattle.std.specs.Prelude.{ℕ, ◌==◌, ◌&&◌, not, nat_lt, nat_le, Bool, true, if◌then◌else◌, Option, Some, None, List, ◌||◌, sum_by}
+use Rattle.std.specs.Prelude.{ℕ, ◌==◌, ◌&&◌, not, nat_lt, nat_le, Bool, false, true, if◌then◌else◌, Option, Some, None, List, ◌||◌, sum_by}
 use Rattle.tag_model.specs.declared.state.Tag.{Tag}
 use Rattle.tag_model.specs.declared.state.Hand.{Hand}
 use Rattle.tag_model.specs.declared.state.Held.{Held}
@@ -11,6 +11,11 @@ use Rattle.tag_model.specs.declared.limits.TheConstants.{SIZE_END, MAX_HAND_CALL
 -- both name one line of one module
 abbrev pub same_tag : Tag → Tag → Bool
 same_tag a b = (a.number == b.number) && (a.module == b.module)
+
+-- a place holds a reference
+abbrev pub is_counted : Held → Bool
+is_counted (held.Counted tag size) = true
+is_counted other = false
 
 -- bytes count a reference's size, calls count 1 for it
 abbrev pub amount : Kind → ℕ → ℕ → ℕ

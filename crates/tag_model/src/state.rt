@@ -19,6 +19,18 @@ pub enum Held {
     Counted { tag: Tag, size: u64 },
 }
 
+impl Held {
+    ghost use Rattle.std.specs.Prelude.{◌≡◌};
+    ghost use Rattle.tag_model.specs.Reference.{is_counted};
+
+    /// Whether a place holds a reference.
+    pub fn is_counted(self) -> bool
+        ensures { result ≡ is_counted self }
+    {
+        matches!(self, Held::Counted { .. })
+    }
+}
+
 /// Which of a tag's two words.
 #[derive(Clone, Copy, Debug, PartialEq, Eq)]
 pub enum Kind {

@@ -21,6 +21,10 @@ no_tag = record { file = []; line = 0; function = [] }
 abbrev pub section_at : List Section → ℕ → Section
 section_at sections number = slice_index_or sections number no_section
 
+-- how many tags a section has
+abbrev pub tags_in : List Section → ℕ → ℕ
+tags_in sections number = length (section_at sections number).tags
+
 -- the tag with the index in the section with the number
 abbrev pub tag_at : List Section → ℕ → ℕ → TagParts
 tag_at sections number index = slice_index_or (section_at sections number).tags index no_tag
