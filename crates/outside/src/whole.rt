@@ -1,5 +1,5 @@
 //! Reading a source to its end, and writing bytes whole.
-ghost use Rattle.std.specs.Prelude.{◌≡◌, ◌+◌, ◌^◌, ◌<◌, ◌≤◌, length, vec_len, IfOk, IfErr, IsErrOf, OnOk, OnErr};
+ghost use Rattle.std.specs.Prelude.{◌≡◌, ◌+◌, ◌^◌, ◌<◌, ◌≤◌, vec_len, IfOk, IfErr, IsErrOf, OnOk, OnErr};
 ghost use Rattle.std.specs.Io.KnownBytes.{Appends, Consumes, IsAtEnd};
 ghost use Rattle.outside.specs.Bytes.{AppendsPrefix, Took};
 ghost use Rattle.outside.specs.Faults.{HasCause, Rose};
@@ -24,34 +24,14 @@ pub fn read_all<S: Source>(
     ensures end { OnOk result (IsAtEnd (S.left source.new)) }
     ensures within { IfOk result (λ v. vec_len v ≤ limit) }
     ensures took { IfErr result (λ e. Took limit e (S.left source.old) (S.left source.new)) }
-
     ensures kept { S.faults source.old ≤ S.faults source.new }
     ensures steady { ¬ IsErrOf result ReadError.Failed → S.faults source.new ≡ S.faults source.old }
     ensures cause { IsErrOf result ReadError.Failed → Rose (S.faults source.old) (S.faults source.new) }
 {
     let mut buffer = [0u8; PIECE];
-    read_pieces(alloc, source, limit, &mut buffer)
-}
-
-// The same, by way of a buffer. The test for too many bytes comes before the vector grows, so that
-// memory is never what is wanting once they were taken.
-fn read_pieces<S: Source>(
-    alloc: Global,
-    source: &mut S,
-    limit: usize,
-    buffer: &mut [u8],
-) -> Result<Vec<u8>, ReadError>
-    requires limit { limit < 2 ^ 32 }
-    requires room { 0 < length buffer.old }
-    ensures bytes { IfOk result (λ v. Consumes (S.left source.old) (S.left source.new) v.items) }
-    ensures end { OnOk result (IsAtEnd (S.left source.new)) }
-    ensures within { IfOk result (λ v. vec_len v ≤ limit) }
-    ensures took { IfErr result (λ e. Took limit e (S.left source.old) (S.left source.new)) }
-    ensures kept { S.faults source.old ≤ S.faults source.new }
-    ensures steady { ¬ IsErrOf result ReadError.Failed → S.faults source.new ≡ S.faults source.old }
-    ensures cause { IsErrOf result ReadError.Failed → Rose (S.faults source.old) (S.faults source.new) }
-{
     let mut bytes = Vec::new(alloc);
+    // The test for too many bytes comes before the vector grows, so that memory is never what is wanting once they
+    // were taken.
     for _turn in 0..limit + 1 {
         let room = buffer.len().min(limit + 1 - bytes.len());
         let piece = &mut buffer[..room];

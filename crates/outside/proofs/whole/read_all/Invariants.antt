@@ -1,7 +1,7 @@
 -- Each turn took at least one byte, and no more than the limit were taken.
 use Rattle.std.proofs.Common.{◌≡◌, ◌≤◌, vec_len}
 use Rattle.std.specs.Io.KnownBytes.{Consumes}
-use Rattle.outside.proofs.whole.read_pieces.Given as goal
+use Rattle.outside.proofs.whole.read_all.Given as goal
 
 abbrev pub invariant-loop-turn : goal.invariant-loop-turn
 invariant-loop-turn g l =

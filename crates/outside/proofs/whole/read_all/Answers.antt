@@ -1,7 +1,7 @@
 use Rattle.std.proofs.Common.{arith, ◌++◌, take, length-append, length-take}
 use Rattle.std.proofs.lemmas.Result.{err_from_is_err_and}
 use Rattle.std.proofs.KnownBytes.{Consumes-trans, Consumes-kept}
-use Rattle.outside.proofs.whole.read_pieces.Goals as goal
+use Rattle.outside.proofs.whole.read_all.Goals as goal
 
 pub returns-in_err-n-clause-took : goal.returns-in_err-n-clause-took
 returns-in_err-n-clause-took g c =
