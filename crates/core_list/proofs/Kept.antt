@@ -1,7 +1,6 @@
 -- Each change leaves a list that is one: the book stays a book, and the stops and the ids that are left are few.
-use Rattle.std.proofs.Common.{◌≡◌, ℕ, ◌+◌, ◌<◌, ◌≤◌, ◌==◌, ◌≢◌, ◌∙◌, ap, List, [], ◌∷◌, length, get_or, map, find, All, AllPairs, Some, None, refl, sym, subst, arith, Bool, true, false, not, cond, eq-eqb}
-use Rattle.std.specs.List.{list_any}
-use Rattle.std.proofs.lemmas.Bool.{or_parts, both_ways, cond-false}
+use Rattle.std.proofs.Common.{◌≡◌, ℕ, ◌+◌, ◌<◌, ◌≤◌, ◌==◌, ◌≢◌, ◌∙◌, ap, List, [], ◌∷◌, length, get_or, map, find, All, AllPairs, None, refl, sym, subst, arith, Bool, true, false, not, cond, eq-eqb}
+use Rattle.std.proofs.lemmas.Bool.{both_ways}
 use Rattle.std.proofs.lemmas.List.{length-map, length-append, get_or-map}
 use Rattle.std.proofs.lemmas.List.Elements.{All-map, All-filter, All-push, All-weaker}
 use Rattle.tag_model.specs.declared.shape.Shape.{Shape}
@@ -19,7 +18,7 @@ use Rattle.module_area.specs.declared.book.TheConstants.{BOOK_LIMIT}
 use Rattle.module_area.specs.Entries.{AreApart, IsFree, IsLoadedAs, is_loaded_as, meets, entered, left as one_left, kept}
 use Rattle.module_area.specs.Area.{Area, LiesIn, DifferIfLoaded, IsBook}
 use Rattle.module_area.proofs.EntryLemmas.{find_none}
-use Rattle.module_area.proofs.StartLemmas.{free_from_none}
+use Rattle.module_area.proofs.StartLemmas.{find_unmet, free_from_none}
 use Rattle.module_area.proofs.BookLemmas.{KeepsRange, IsBook-filter, IsBook-push}
 use Rattle.core_list.specs.declared.list.TheConstants.{LAST_ID}
 use Rattle.core_list.specs.ListState.{ListState, IsList, record_of, records_of, left_ids, load_refusal, loaded, new_entry, or_zero, least_start, with_changed, entered_list, left_list, dead_list, swept_list, sum_read, scanned, scanned_at, read_to, read_to_at, released, released_at}
@@ -150,10 +149,6 @@ list_released l ok = go l.sweep ok.few
 
 pub loaded_means : (section : ℕ) (e : Entry) → IsLoadedAs section e → is_loaded_as section e ≡ true
 loaded_means section e is = rw is.0 (eq-eqb e.section section is.1)
-
-pub find_unmet : {X : Type 0} (p : X → Bool) (xs : List X) → list_any p xs ≡ false → find p xs ≡ None
-find_unmet p [] e = refl
-find_unmet p (x ∷ xs) e = let both = or_parts (p x) (list_any p xs) e in cond-false (p x) (Some x) (find p xs) both.0 ∙ find_unmet p xs both.1
 
 -- a section that has no loaded entry
 pub unnamed_all : (section : ℕ) (entries : List Entry) → find (is_loaded_as section) entries ≡ None → All (λ e. ¬ IsLoadedAs section e) entries

@@ -1,9 +1,8 @@
 -- What reserving a range answers is what the load is refused by.
-use Rattle.std.proofs.Common.{◌≡◌, ◌≢◌, ℕ, zero, suc, ◌+◌, ◌<◌, ◌≤◌, ◌==◌, ◌||◌, ◌⊎◌, nat_le, List, [], ◌∷◌, length, find, All, Any, Option, Some, None, is_some, Result, Ok, Err, get_or, ◌↔◌, refl, sym, ap, ◌∙◌, inl, inr, arith, Bool, true, false, not, cond, eqb-true, leb-true, eq-eqb, ne_eqb, le-leb, if◌then◌else◌}
-use Rattle.std.specs.List.{list_any, range_with_len}
+use Rattle.std.proofs.Common.{◌≡◌, ◌≢◌, ℕ, ◌≤◌, ◌==◌, ◌||◌, length, All, Any, Option, Some, None, is_some, Result, Ok, Err, get_or, ◌↔◌, refl, sym, ap, ◌∙◌, true, eqb-true, eq-eqb, ne_eqb, if◌then◌else◌}
 use Rattle.std.specs.Result.{IsErrOf}
 use Rattle.std.proofs.lemmas.List.{get_or_default}
-use Rattle.std.proofs.lemmas.Bool.{and_parts, and_from, not-true, or_from, or_left, both_ways, false≢true, cases_eq, cond-true, cond-false, false_from_ne_true}
+use Rattle.std.proofs.lemmas.Bool.{or_from, or_left, both_ways, false≢true, cond-true, cond-false}
 use Rattle.std.proofs.lemmas.List.Elements.{All-contains}
 use Rattle.module_area.specs.declared.entry.Entry.{Entry}
 use Rattle.module_area.specs.declared.entry.State.{State}
@@ -11,64 +10,13 @@ use Rattle.module_area.specs.declared.entry.State.TheVariants.{Loaded, Dead}
 use Rattle.module_area.specs.declared.book.TheConstants.{BOOK_LIMIT}
 use Rattle.module_area.specs.declared.book.AreaError.{AreaError}
 use Rattle.module_area.specs.declared.book.AreaError.TheVariants.{SameName, BookFull, NoRoom, NoSection}
-use Rattle.module_area.specs.Entries.{IsFree, IsMet, IsLoadedAs, is_loaded_as, is_loaded_at, meets}
-use Rattle.module_area.specs.Area.{is_free_at, least_start, Area, LiesIn, IsLeastStart, HasNoRoom, IsFull, IsBook}
+use Rattle.module_area.specs.Entries.{IsLoadedAs, is_loaded_as, is_loaded_at}
+use Rattle.module_area.specs.Area.{least_start, Area, IsLeastStart, HasNoRoom, IsFull, IsBook}
 use Rattle.module_area.proofs.EntryLemmas.{find_some, find_none}
-use Rattle.module_area.proofs.StartLemmas.{free_from_none, found, met_later}
+use Rattle.module_area.proofs.StartLemmas.{least_start_is, no_least_start}
 use Rattle.core_list.specs.declared.list.TheConstants.{LAST_ID}
 use Rattle.core_list.specs.ListState.{ListState, load_refusal, loaded_entry, unless_room}
-use Rattle.core_list.proofs.Kept.{find_unmet, loaded_means}
-
--- ---- the first number of a range that passes a test
-
-find_first : (p : ℕ → Bool) (low n k : ℕ) → low ≤ k → k < low + n → p k ≡ true → ((j : ℕ) → low ≤ j → j < k → p j ≡ false) → find p (range_with_len low n) ≡ Some k
-find_first p low zero k above below passes before = absurd (omega arith)
-find_first p low (suc n) k above below passes before = go (cases_eq low k) (λ more. find_first p (low + 1) n k (omega arith) (omega arith) passes (λ j h. before j (omega arith)))
-  where
-    go : (low ≡ k) ⊎ (low ≢ k) → (low ≢ k → find p (range_with_len (low + 1) n) ≡ Some k) → find p (range_with_len low (suc n)) ≡ Some k
-    go (inl same) later = cond-true (p low) (Some low) (find p (range_with_len (low + 1) n)) (ap p same ∙ passes) ∙ ap (λ j. Some j) same
-    go (inr other) later = cond-false (p low) (Some low) (find p (range_with_len (low + 1) n)) (before low (omega arith) (omega arith)) ∙ later other
-
-find_nothing : (p : ℕ → Bool) (low n : ℕ) → ((j : ℕ) → low ≤ j → p j ≡ false) → find p (range_with_len low n) ≡ None
-find_nothing p low zero none = refl
-find_nothing p low (suc n) none = cond-false (p low) (Some low) (find p (range_with_len (low + 1) n)) (none low (omega arith)) ∙ find_nothing p (low + 1) n (λ j h. none j (omega arith))
-
--- ---- the least start
-
-none_meets : {X : Type 0} (p : X → Bool) (xs : List X) → find p xs ≡ None → list_any p xs ≡ false
-none_meets p [] e = refl
-none_meets p (x ∷ xs) e = go (p x) refl e (λ later. none_meets p xs later)
-  where
-    go : (b : Bool) → p x ≡ b → cond b (Some x) (find p xs) ≡ None → (find p xs ≡ None → list_any p xs ≡ false) → list_any p (x ∷ xs) ≡ false
-    go true is e later = absurd (cc)
-    go false is e later = or_from _ _ is (later e)
-
--- free tags are met by no entry
-free_unmet : (area : Area) (size start : ℕ) → IsBook area → 1 ≤ size → IsFree area.entries start size → list_any (λ e. meets e start size) area.entries ≡ false
-free_unmet area size start book some free = go (find (λ e. meets e start size) area.entries) refl
-  where
-    go : (o : Option Entry) → find (λ e. meets e start size) area.entries ≡ o → list_any (λ e. meets e start size) area.entries ≡ false
-    go None is = none_meets (λ e. meets e start size) area.entries is
-    go (Some e) is =
-        let f = found area start size e book is in
-        let met : IsMet area.entries start size = met_later area.entries e start size start f.there f.meeting f.some_tags some (omega arith) f.later in
-        absurd (free met.0 met.1 met.2 met.3)
-
--- a start whose tags are met is not free
-met_not_free : (area : Area) (size start : ℕ) → area.first ≤ start → (LiesIn area start size → IsMet area.entries start size) → is_free_at area size start ≡ false
-met_not_free area size start low meets_one = false_from_ne_true (is_free_at area size start) (λ free.
-    let both = and_parts (nat_le (start + size) (area.first + area.tags)) (not (list_any (λ e. meets e start size) area.entries)) free in
-    let met : IsMet area.entries start size = meets_one (low, leb-true _ _ both.0) in
-    free_from_none area.entries start size (find_unmet (λ e. meets e start size) area.entries (not-true _ both.1)) met.0 met.1 met.2 met.3)
-
-pub least_start_is : (area : Area) (size start : ℕ) → IsBook area → 1 ≤ size → IsLeastStart area size start → least_start area size ≡ Some start
-least_start_is area size start book some least =
-    find_first (is_free_at area size) area.first (area.tags + 1) start least.lies.0 (omega (arith, least.lies.1))
-    (and_from _ _ (le-leb (start + size) (area.first + area.tags) least.lies.1) (ap not (free_unmet area size start book some least.free)))
-    (λ other low below. met_not_free area size other low (least.least other below))
-
-pub no_least_start : (area : Area) (size : ℕ) → HasNoRoom area size → least_start area size ≡ None
-no_least_start area size none = find_nothing (is_free_at area size) area.first (area.tags + 1) (λ start low. met_not_free area size start low (none start))
+use Rattle.core_list.proofs.Kept.{loaded_means}
 
 -- ---- the section's loaded entry
 

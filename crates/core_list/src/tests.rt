@@ -1,6 +1,8 @@
 //! Modules that are loaded, unloaded and swept.
 
-ghost use Rattle.std.specs.Prelude.{◌≡◌, ◌+◌, ◌≤◌, IsTrue};
+ghost use Rattle.std.specs.Prelude.{◌≡◌, ◌+◌, ◌≤◌, IsTrue, Some};
+ghost use Rattle.module_area.specs.Entries.{entry_of};
+ghost use Rattle.module_area.specs.declared.entry.State.TheVariants as state;
 ghost use Rattle.core_list.specs.ListState.{records_of};
 ghost use Rattle.tag_model.specs.Laws.{sweep_fits};
 ghost use Rattle.tag_model.specs.Shape.{IsChecked};
@@ -41,21 +43,25 @@ fn load(rt: &impl Abort, list: &mut CoreList, section: u32, length: u32) -> Resu
     list.load(section, length)
 }
 
+// The entry of the id, which is loaded.
+fn loaded(rt: &impl Abort, list: &CoreList, id: u32) -> Entry
+    ensures entry { entry_of list.now.area.entries id ≡ Some result }
+    ensures state { result.state ≡ state.Loaded }
+{
+    match list.book().get(id) {
+        Some(entry) if entry.state == State::Loaded => entry,
+        _ => panic!(rt; "not loaded"),
+    }
+}
+
 // A CPU comes into the module and goes out of it again.
 fn visit(rt: &impl Abort, list: &mut CoreList, id: u32)
     ensures first { list.new.area.first ≡ list.old.area.first }
     ensures tags { list.new.area.tags ≡ list.old.area.tags }
 {
-    match list.book().get(id) {
-        Some(
-            Entry {
-                state: State::Loaded,
-                users,
-                ..
-            },
-        ) if users < 64 => list.enter(id),
-        _ => panic!(rt; "not loaded"),
-    }
+    let entry = loaded(rt, list, id);
+    assert!(rt; entry.users < 64);
+    list.enter(id);
     match list.book().get(id) {
         Some(Entry { users: 1.., .. }) => list.leave(id),
         _ => panic!(rt; "no users"),
@@ -66,16 +72,9 @@ fn unload(rt: &impl Abort, list: &mut CoreList, id: u32)
     ensures first { list.new.area.first ≡ list.old.area.first }
     ensures tags { list.new.area.tags ≡ list.old.area.tags }
 {
-    match list.book().get(id) {
-        Some(
-            Entry {
-                state: State::Loaded,
-                users: 0,
-                ..
-            },
-        ) => list.mark_dead(id),
-        _ => panic!(rt; "not idle"),
-    }
+    let entry = loaded(rt, list, id);
+    assert!(rt; entry.users == 0);
+    list.mark_dead(id);
 }
 
 // All dead modules are swept: words that are read, with the stop that each gives, and what is next. Where that is a

@@ -1,10 +1,10 @@
 -- The search for the least start: where it may stop, and how far it may go on.
-use Rattle.std.proofs.Common.{◌≡◌, ℕ, ◌+◌, ◌<◌, ◌≤◌, true, false, List, Some, None, All, Contains, subst, arith, ⊎_elim}
-use Rattle.std.specs.List.{find}
-use Rattle.std.proofs.lemmas.Bool.{and_parts, and_from, both_ways, cases_lt, ltb-true, lt-ltb}
+use Rattle.std.proofs.Common.{◌≡◌, ◌≢◌, ℕ, zero, suc, ◌+◌, ◌<◌, ◌≤◌, ◌⊎◌, inl, inr, nat_le, Bool, true, false, not, cond, List, [], ◌∷◌, Option, Some, None, find, All, Contains, refl, ap, ◌∙◌, subst, arith, ⊎_elim, leb-true, le-leb}
+use Rattle.std.specs.List.{list_any, range_with_len}
+use Rattle.std.proofs.lemmas.Bool.{and_parts, and_from, both_ways, cases_eq, cases_lt, cond-true, cond-false, false_from_ne_true, ltb-true, lt-ltb, not-true, or_from, or_parts}
 use Rattle.module_area.specs.declared.entry.Entry.{Entry}
 use Rattle.module_area.specs.Entries.{IsFree, IsMet, meets}
-use Rattle.module_area.specs.Area.{Area, LiesIn, IsLeastStart, HasNoRoom, IsBook}
+use Rattle.module_area.specs.Area.{Area, LiesIn, IsLeastStart, HasNoRoom, IsBook, is_free_at, least_start}
 use Rattle.module_area.proofs.EntryLemmas.{find_some, find_none}
 
 -- where no range has one of the tags, they are free
@@ -67,3 +67,58 @@ pub room_at_start : (area : Area) (size start : ℕ) → IsLeastStart area size 
 room_at_start area size start least none =
     let met = none start least.lies in
     least.free met.0 met.1 met.2 met.3
+
+-- ---- the first number of a range that passes a test
+
+find_first : (p : ℕ → Bool) (low n k : ℕ) → low ≤ k → k < low + n → p k ≡ true → ((j : ℕ) → low ≤ j → j < k → p j ≡ false) → find p (range_with_len low n) ≡ Some k
+find_first p low zero k above below passes before = absurd (omega arith)
+find_first p low (suc n) k above below passes before = go (cases_eq low k) (λ more. find_first p (low + 1) n k (omega arith) (omega arith) passes (λ j h. before j (omega arith)))
+  where
+    go : (low ≡ k) ⊎ (low ≢ k) → (low ≢ k → find p (range_with_len (low + 1) n) ≡ Some k) → find p (range_with_len low (suc n)) ≡ Some k
+    go (inl same) later = cond-true (p low) (Some low) (find p (range_with_len (low + 1) n)) (ap p same ∙ passes) ∙ ap (λ j. Some j) same
+    go (inr other) later = cond-false (p low) (Some low) (find p (range_with_len (low + 1) n)) (before low (omega arith) (omega arith)) ∙ later other
+
+find_nothing : (p : ℕ → Bool) (low n : ℕ) → ((j : ℕ) → low ≤ j → p j ≡ false) → find p (range_with_len low n) ≡ None
+find_nothing p low zero none = refl
+find_nothing p low (suc n) none = cond-false (p low) (Some low) (find p (range_with_len (low + 1) n)) (none low (omega arith)) ∙ find_nothing p (low + 1) n (λ j h. none j (omega arith))
+
+pub find_unmet : {X : Type 0} (p : X → Bool) (xs : List X) → list_any p xs ≡ false → find p xs ≡ None
+find_unmet p [] e = refl
+find_unmet p (x ∷ xs) e = let both = or_parts (p x) (list_any p xs) e in cond-false (p x) (Some x) (find p xs) both.0 ∙ find_unmet p xs both.1
+
+-- ---- the least start
+
+none_meets : {X : Type 0} (p : X → Bool) (xs : List X) → find p xs ≡ None → list_any p xs ≡ false
+none_meets p [] e = refl
+none_meets p (x ∷ xs) e = go (p x) refl e (λ later. none_meets p xs later)
+  where
+    go : (b : Bool) → p x ≡ b → cond b (Some x) (find p xs) ≡ None → (find p xs ≡ None → list_any p xs ≡ false) → list_any p (x ∷ xs) ≡ false
+    go true is e later = absurd (cc)
+    go false is e later = or_from _ _ is (later e)
+
+-- free tags are met by no entry
+free_unmet : (area : Area) (size start : ℕ) → IsBook area → 1 ≤ size → IsFree area.entries start size → list_any (λ e. meets e start size) area.entries ≡ false
+free_unmet area size start book some free = go (find (λ e. meets e start size) area.entries) refl
+  where
+    go : (o : Option Entry) → find (λ e. meets e start size) area.entries ≡ o → list_any (λ e. meets e start size) area.entries ≡ false
+    go None is = none_meets (λ e. meets e start size) area.entries is
+    go (Some e) is =
+        let f = found area start size e book is in
+        let met : IsMet area.entries start size = met_later area.entries e start size start f.there f.meeting f.some_tags some (omega arith) f.later in
+        absurd (free met.0 met.1 met.2 met.3)
+
+-- a start whose tags are met is not free
+met_not_free : (area : Area) (size start : ℕ) → area.first ≤ start → (LiesIn area start size → IsMet area.entries start size) → is_free_at area size start ≡ false
+met_not_free area size start low meets_one = false_from_ne_true (is_free_at area size start) (λ free.
+    let both = and_parts (nat_le (start + size) (area.first + area.tags)) (not (list_any (λ e. meets e start size) area.entries)) free in
+    let met : IsMet area.entries start size = meets_one (low, leb-true _ _ both.0) in
+    free_from_none area.entries start size (find_unmet (λ e. meets e start size) area.entries (not-true _ both.1)) met.0 met.1 met.2 met.3)
+
+pub least_start_is : (area : Area) (size start : ℕ) → IsBook area → 1 ≤ size → IsLeastStart area size start → least_start area size ≡ Some start
+least_start_is area size start book some least =
+    find_first (is_free_at area size) area.first (area.tags + 1) start least.lies.0 (omega (arith, least.lies.1))
+    (and_from _ _ (le-leb (start + size) (area.first + area.tags) least.lies.1) (ap not (free_unmet area size start book some least.free)))
+    (λ other low below. met_not_free area size other low (least.least other below))
+
+pub no_least_start : (area : Area) (size : ℕ) → HasNoRoom area size → least_start area size ≡ None
+no_least_start area size none = find_nothing (is_free_at area size) area.first (area.tags + 1) (λ start low. met_not_free area size start low (none start))

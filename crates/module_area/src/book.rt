@@ -1,7 +1,7 @@
 ghost use Rattle.std.specs.Prelude.{ℕ, ◌≡◌, ◌≢◌, ◌+◌, ◌<◌, ◌≤◌, ◌==◌, ◌↔◌, List, [], ◌∷◌, ◌++◌, length, slice_get, Some, IsSome, IsNone, IsSomeAnd, IfSome, IfOk, OnErr, IsErrOf, MatchOption, Contains, All, Any};
 ghost use Rattle.std.specs.List.{find, position};
 ghost use Rattle.module_area.specs.Entries.{Covers, meets, IsLoadedAs, entry_of, id_covering, id_loaded, with_entry, without_entry, entered, left, kept};
-ghost use Rattle.module_area.specs.Area.{Area, IsLeastStart, HasNoRoom, IsFull, IsBook};
+ghost use Rattle.module_area.specs.Area.{Area, IsLeastStart, HasNoRoom, IsFull, IsBook, least_start};
 ghost use Rattle.module_area.specs.declared.entry.State.TheVariants.{Loaded, Dead};
 
 use crate::entry::{Entry, State};
@@ -243,7 +243,8 @@ impl Book {
     /// entry that covers one is free.
     pub fn least_start(&self, size: u32) -> Option<u32>
         requires { 1 ≤ size }
-        ensures { MatchOption result (HasNoRoom self.now size) (IsLeastStart self.now size) }
+        ensures value { result ≡ least_start self.now size }
+        ensures least { MatchOption result (HasNoRoom self.now size) (IsLeastStart self.now size) }
     {
         let end = self.first + self.tags;
         let mut start = self.first;

@@ -1,7 +1,7 @@
-use Rattle.std.proofs.Common.{◌≡◌, ◌+◌, ◌∷◌, [], ℕ, refl, subst, true}
+use Rattle.std.proofs.Common.{◌≡◌, ◌∷◌, [], refl, subst, true}
 use Rattle.tag_model.specs.Sweeping.{is_accounted}
 use Rattle.tag_model.proofs.Accounted.{marks_account, releases_account, scans_above_zero, scans_account, sweeps_account}
-use Rattle.core_list.specs.ListState.{dead_list, list_part, released, scanned, swept_list}
+use Rattle.core_list.specs.ListState.{dead_list, list_part, released, swept_list}
 use Rattle.core_list.proofs.Changes.{marks_id, row-marks_dead, row-releases, row-scans}
 use Rattle.core_list.proofs.rows.dead_modules_are_listed_or_have_a_stop.Goals as goal
 

@@ -2,13 +2,14 @@ use Rattle.std.proofs.Common.{◌≡◌, ℕ, ◌+◌, ◌∷◌, [], ◌++◌, 
 use Rattle.std.proofs.lemmas.Result.{err_from_is_err_and}
 use Rattle.module_area.specs.declared.entry.State.TheVariants.{Loaded}
 use Rattle.module_area.specs.Area.{Area}
+use Rattle.module_area.proofs.StartLemmas.{least_start_is}
 use Rattle.module_list.specs.Listing as listing
 use Rattle.module_list.specs.Listing.{bare}
 use Rattle.module_list.proofs.Bare.{bare_loaded}
 use Rattle.core_list.specs.ListState.{listed, loaded, or_zero}
 use Rattle.core_list.proofs.Listed.{listed_loaded}
 use Rattle.core_list.proofs.Methods.{fields_are, goes_along, ids_below, kept_is, state_of}
-use Rattle.core_list.proofs.Refused.{Says, refused_as, accepted_at, least_start_is}
+use Rattle.core_list.proofs.Refused.{Says, refused_as, accepted_at}
 use Rattle.core_list.proofs.list.CoreList.load.Goals as goal
 
 pub returns-in_err-start-clause-answer : goal.returns-in_err-start-clause-answer

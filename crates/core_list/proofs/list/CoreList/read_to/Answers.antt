@@ -1,7 +1,7 @@
 use Rattle.std.proofs.Common.{sym, ap, ◌∙◌, subst}
 use Rattle.module_list.specs.Listing as listing
 use Rattle.module_list.proofs.Bare.{bare_read_to}
-use Rattle.core_list.specs.ListState.{ListState, IsList, listed, read_to}
+use Rattle.core_list.specs.ListState.{IsList, listed, read_to}
 use Rattle.core_list.proofs.Kept.{list_read_to}
 use Rattle.core_list.proofs.Listed.{listed_read_to}
 use Rattle.core_list.proofs.Methods.{area_read_to, fields_are, goes_along, kept_is, last_read_to, state_of, still_kept}

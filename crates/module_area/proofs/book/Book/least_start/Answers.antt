@@ -1,10 +1,10 @@
 use Rattle.std.proofs.Common.{sym, ap, ◌∙◌, arith}
 use Rattle.module_area.specs.Area.{Area}
-use Rattle.module_area.proofs.StartLemmas.{found, free_from_none, met_before}
+use Rattle.module_area.proofs.StartLemmas.{found, free_from_none, least_start_is, met_before, no_least_start}
 use Rattle.module_area.proofs.book.Book.least_start.Goals as goal
 
-pub returns-in-None : goal.returns-in-None
-returns-in-None c =
+pub returns-in-None-clause-least : goal.returns-in-None-clause-least
+returns-in-None-clause-least c =
     let first_is = ap (λ (a : Area). a.first) c.self.view_is in
     let tags_is = ap (λ (a : Area). a.tags) c.self.view_is in
     record {
@@ -12,6 +12,15 @@ returns-in-None c =
       free = free_from_none c.args.self.now.entries c.loop-start.start c.args.size (sym c.met.ensures.value ∙ c.in-None.is);
       least = c.loop-start.invariant.met_before;
     }
+
+pub returns-in-None-clause-value : goal.returns-in-None-clause-value
+returns-in-None-clause-value c = sym (least_start_is c.args.self.now c.args.size c.loop-start.start c.met.ensures.formed c.requires (returns-in-None-clause-least c))
+
+pub returns-clause-value : goal.returns-clause-value
+returns-clause-value c =
+    let first_is = ap (λ (a : Area). a.first) c.self.view_is in
+    let tags_is = ap (λ (a : Area). a.tags) c.self.view_is in
+    sym (no_least_start c.args.self.now c.args.size (λ other lies. c.loop-start.invariant.met_before other (omega (arith, lies.1)) lies))
 
 pub overflow_add-start : goal.overflow_add-start
 overflow_add-start c =
