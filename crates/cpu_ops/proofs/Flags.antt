@@ -1,7 +1,6 @@
 -- The flags of reserved keys say what the queues say, before a step and after it.
-use Rattle.std.proofs.Common.{◌≡◌, ◌≢◌, ℕ, zero, suc, ◌+◌, ◌*◌, ◌<◌, ◌≤◌, ◌==◌, ◌||◌, ◌&&◌, not, List, [], ◌∷◌, ◌++◌, length, set, get_or, replicate, refl, sym, ap, ◌∙◌, subst, arith, Bool, true, false, cond, inl, inr, All, nat_le, nat_lt, le-leb, lt-ltb, leb-true, ltb-true, if◌then◌else◌}
+use Rattle.std.proofs.Common.{◌≡◌, ◌≢◌, ℕ, zero, suc, ◌+◌, ◌<◌, ◌==◌, ◌||◌, List, [], ◌∷◌, ◌++◌, length, set, get_or, replicate, refl, sym, ap, ◌∙◌, arith, Bool, true, false, if◌then◌else◌}
 use Rattle.std.proofs.lemmas.Bool.Decides.{nat_tests}
-use Rattle.std.proofs.lemmas.Bool.{cases_eq, cases_Bool, or_cases}
 use Rattle.std.proofs.lemmas.List.{get_or-replicate, length-replicate}
 use Rattle.std.specs.List.{list_any}
 use Rattle.tag_model.specs.declared.state.Held.{Held}
@@ -9,8 +8,8 @@ use Rattle.tag_model.specs.declared.state.Held.TheVariants as held
 use Rattle.cpu_ops.specs.declared.op.CpuOp.{CpuOp}
 use Rattle.cpu_ops.specs.declared.op.CpuOp.TheVariants.{Open, Close, Split, Swap, Trim, Enter, Leave}
 use Rattle.cpu_ops.specs.declared.op.TheConstants.{KEY_END}
-use Rattle.cpu_ops.specs.Machine.{Waiting, nothing_waits, advanced, names_key, is_new_key, reserves, is_reserved, step_count, KeysFit, with_op}
-use Rattle.cpu_ops.specs.Reserved.{flag_at, AreReserved, Flagged, FlaggedFrom, Noted, Notes}
+use Rattle.cpu_ops.specs.Machine.{Waiting, nothing_waits, advanced, names_key, reserves, is_reserved, step_count, KeysFit, with_op}
+use Rattle.cpu_ops.specs.Reserved.{flag_at, AreReserved, Flagged, Noted, Notes}
 
 -- ---- a list in which one element is replaced, and a test that some element passes
 

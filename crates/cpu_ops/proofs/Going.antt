@@ -1,5 +1,5 @@
 -- What a step of a CPU needs, from what holds before it.
-use Rattle.std.proofs.Common.{◌≡◌, ◌≢◌, ℕ, zero, suc, ◌+◌, ◌<◌, ◌==◌, cond, List, [], ◌∷◌, ◌++◌, take, drop, length, slice_get, get_or, set, refl, sym, ap, ◌∙◌, subst, arith, Option, Some, None, Bool, true, false}
+use Rattle.std.proofs.Common.{◌≡◌, ℕ, ◌<◌, ◌==◌, cond, List, [], ◌∷◌, ◌++◌, take, drop, length, slice_get, get_or, set, refl, sym, ap, ◌∙◌, subst, arith, Option, Some, None, Bool}
 use Rattle.std.proofs.lemmas.Option.{none-some, same_Some}
 use Rattle.std.proofs.Math.Seq.{take-append_seam}
 use Rattle.std.proofs.lemmas.List.{length-set, get_or_default}
@@ -11,7 +11,7 @@ use Rattle.cpu_ops.proofs.Flags.{reserved_after}
 use Rattle.cpu_ops.specs.declared.op.CpuOp.{CpuOp}
 use Rattle.cpu_ops.specs.declared.step.WordStep.{WordStep}
 use Rattle.cpu_ops.specs.declared.step.WordStep.TheVariants.{BeginAllocation, AddBytes, AddCall, SubtractBytes, SubtractCall, Write, GoIn, GoOut}
-use Rattle.cpu_ops.specs.Machine.{Machine, Scene, Waiting, nothing_waits, advanced, waiting_at, hand_at, step_of, step_count, first_refusal, refusal_in, places_after, KeysFit, CanTake, CanStep, CanGo}
+use Rattle.cpu_ops.specs.Machine.{Machine, Scene, Waiting, nothing_waits, advanced, waiting_at, hand_at, step_of, step_count, first_refusal, places_after, KeysFit, CanTake, CanStep, CanGo}
 
 -- what waits, where there is a first op
 pub record First (w : Waiting) (op : CpuOp) : Type 0 where

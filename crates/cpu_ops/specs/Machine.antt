@@ -19,6 +19,7 @@ use Rattle.cpu_ops.specs.declared.op.TheConstants.{KEY_END}
 use Rattle.cpu_ops.specs.declared.step.WordStep.{WordStep}
 use Rattle.cpu_ops.specs.declared.step.WordStep.TheVariants.{BeginAllocation, AddBytes, AddCall, SubtractBytes, SubtractCall, Write, GoIn, GoOut}
 use Rattle.core_list.specs.ListState.{ListState, loaded_entry}
+use Rattle.tag_model.specs.Reference.{is_counted}
 
 -- the ops of a CPU, of which so many steps of the first are done
 pub record Waiting : Type 0 where
@@ -78,10 +79,6 @@ bytes_in (Some h) = h.bytes
 abbrev pub holds_nothing : Held → Bool
 holds_nothing held.None = true
 holds_nothing other = false
-
-abbrev pub is_counted : Held → Bool
-is_counted (held.Counted tag size) = true
-is_counted other = false
 
 abbrev pub size_of : Held → ℕ
 size_of (held.Counted tag size) = size

@@ -1,21 +1,17 @@
 -- What may be queued on a CPU.
 use Rattle.std.specs.Prelude.{◌≡◌, ◌≢◌, ℕ, ◌+◌, ◌-◌, ◌<◌, ◌≤◌, false, List, length}
 use Rattle.tag_model.specs.declared.limits.TheConstants.{SIZE_END}
-use Rattle.tag_section.specs.Section.{Section, section_at}
+use Rattle.tag_section.specs.Section.{Section, tags_in}
 use Rattle.cpu_ops.specs.declared.op.CpuOp.{CpuOp}
 use Rattle.cpu_ops.specs.declared.op.CpuOp.TheVariants.{Open, Close, Split, Swap, Trim, Enter, Leave}
 use Rattle.cpu_ops.specs.declared.op.TheConstants.{KEY_END, MAX_PARTS}
 use Rattle.cpu_ops.specs.Machine.{is_new_key}
 
--- how many tags a section has
-abbrev pub section_len : List Section → ℕ → ℕ
-section_len sections section = length (section_at sections section).tags
-
 pub record IsOpen (sections : List Section) (key section index size : ℕ) : Type 0 where
   pub some_key : 0 < key
   pub key_below : key < KEY_END
   pub has_section : section < length sections
-  pub in_section : index < section_len sections section
+  pub in_section : index < tags_in sections section
   pub some_bytes : 0 < size
   pub size_below : size < SIZE_END
 

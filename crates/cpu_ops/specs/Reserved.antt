@@ -1,5 +1,5 @@
 -- Which keys are reserved, kept beside them.
-use Rattle.std.specs.Prelude.{◌≡◌, ℕ, ◌<◌, ◌+◌, ◌==◌, ◌&&◌, nat_le, nat_lt, not, Bool, true, false, List, length, slice_index_or, if◌then◌else◌}
+use Rattle.std.specs.Prelude.{◌≡◌, ℕ, ◌<◌, ◌+◌, ◌==◌, ◌&&◌, nat_le, nat_lt, Bool, true, false, List, length, slice_index_or, if◌then◌else◌}
 use Rattle.cpu_ops.specs.declared.op.CpuOp.{CpuOp}
 use Rattle.cpu_ops.specs.declared.op.TheConstants.{KEY_END}
 use Rattle.tag_model.specs.declared.state.Held.{Held}

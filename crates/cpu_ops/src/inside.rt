@@ -23,11 +23,9 @@ impl Inside {
     pub fn new(alloc: Global, sections: u32) -> Result<Inside, AllocError>
         ensures { IfOk result (λ inside. inside ≡ replicate sections None) }
     {
-        let mut runs = Vec::with_capacity(alloc, sections as usize)?;
-        for _section in 0..sections {
-            runs.push(None)?;
-        }
-        Ok(Inside { runs })
+        Ok(Inside {
+            runs: vec![in alloc; None; sections as usize]?,
+        })
     }
 
     /// The run on the section's module.

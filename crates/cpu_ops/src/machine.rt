@@ -1,6 +1,6 @@
 //! The machine without its words: hands by CPU, places by key, and the ops of each CPU.
 
-ghost use Rattle.std.specs.Prelude.{◌≡◌, ◌<◌, ◌≤◌, ◌↔◌, [], ℕ, IsTrue, IsOkAnd, IfOk, OnOk, OnErr, MatchOption, length, replicate, Some, None};
+ghost use Rattle.std.specs.Prelude.{◌≡◌, ◌<◌, ◌≤◌, ◌↔◌, [], ℕ, IsTrue, IsOkAnd, IfOk, OnOk, OnErr, MatchOption, length, replicate, Some};
 ghost use Rattle.cpu_ops.specs.declared.op.TheConstants.{KEY_END, MAX_QUEUED};
 ghost use Rattle.cpu_ops.specs.Machine.{held_at, waiting_at, nothing_waits, is_reserved, refusal_of, step_at, after_step, own_words_after, queued_on, fresh_machine, CanGo};
 
@@ -36,16 +36,6 @@ impl Model for Machine {
     ghost invariant = { λ m. AreReserved m.reserved m.places.items m.waiting.items };
 }
 
-fn no_hands(alloc: Global, cpus: u32) -> Result<Vec<Option<Hand>>, AllocError>
-    ensures { IfOk result (λ v. v.items ≡ replicate cpus None) }
-{
-    let mut hands = Vec::with_capacity(alloc, cpus as usize)?;
-    for _cpu in 0..cpus {
-        hands.push(None)?;
-    }
-    Ok(hands)
-}
-
 fn no_ops(alloc: Global, cpus: u32) -> Result<Vec<Waiting>, AllocError>
     ensures { IfOk result (λ v. v.items ≡ replicate cpus nothing_waits) }
 {
@@ -62,7 +52,7 @@ impl Machine {
         ensures { IfOk result (λ machine. machine ≡ fresh_machine cpus) }
     {
         Ok(Machine {
-            hands: no_hands(alloc, cpus)?,
+            hands: vec![in alloc; None; cpus as usize]?,
             places: vec![in alloc; Held::None; KEY_END as usize]?,
             reserved: Reserved::new(alloc)?,
             waiting: no_ops(alloc, cpus)?,

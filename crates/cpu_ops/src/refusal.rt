@@ -2,7 +2,8 @@
 
 ghost use Rattle.std.specs.Prelude.{◌≡◌, ◌+◌, ◌<◌, ◌==◌, if◌then◌else◌, None, length};
 ghost use Rattle.cpu_ops.specs.declared.op.TheConstants.{KEY_END};
-ghost use Rattle.cpu_ops.specs.Machine.{holds_nothing, is_counted, size_of, is_used, is_live, used_key, open_refusal, close_refusal, split_refusal, swap_refusal, trim_refusal, enter_refusal, leave_refusal, first_refusal, KeysFit, SectionsFit};
+ghost use Rattle.cpu_ops.specs.Machine.{holds_nothing, size_of, is_used, is_live, used_key, open_refusal, close_refusal, split_refusal, swap_refusal, trim_refusal, enter_refusal, leave_refusal, first_refusal, KeysFit, SectionsFit};
+ghost use Rattle.tag_model.specs.Reference.{is_counted};
 
 use crate::machine::Machine;
 use crate::op::CpuOp;
@@ -14,12 +15,6 @@ fn is_empty_place(held: Held) -> bool
     ensures { result ≡ holds_nothing held }
 {
     matches!(held, Held::None)
-}
-
-fn is_counted(held: Held) -> bool
-    ensures { result ≡ is_counted held }
-{
-    matches!(held, Held::Counted { .. })
 }
 
 fn size_of(held: Held) -> u64
@@ -45,7 +40,7 @@ impl Machine {
         requires { key < KEY_END }
         ensures { result ≡ is_live self.now.places self.now.waiting key }
     {
-        is_counted(self.held(key)) && !self.is_reserved(key)
+        self.held(key).is_counted() && !self.is_reserved(key)
     }
 
     /// The lowest of a split's new keys that can't have a reference.

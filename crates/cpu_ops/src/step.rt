@@ -1,6 +1,6 @@
 //! The steps of each op, in order.
 
-ghost use Rattle.std.specs.Prelude.{◌≡◌, ◌+◌, ◌*◌, ◌^◌, ◌<◌, ◌≤◌, length};
+ghost use Rattle.std.specs.Prelude.{◌≡◌, ℕ, ◌+◌, ◌*◌, ◌^◌, ◌<◌, ◌≤◌, length};
 ghost use Rattle.tag_model.specs.StepRules.{without_call};
 ghost use Rattle.cpu_ops.specs.declared.op.TheConstants.{KEY_END};
 ghost use Rattle.cpu_ops.specs.Machine.{step_of, open_step, close_step, split_step, part_key, share_step, share_of, rest_of, swap_step, trim_step, clear_step, put_step, in_hand, put_down, bytes_in, step_count, words_after, hand_after, places_after, CanTake, KeysFit, HasCall, held_at, tag_in, SectionsFit, TagFits};
@@ -282,83 +282,60 @@ impl WordStep {
         ensures hand { hand.new ≡ hand_after self hand.old }
         ensures places { places.new ≡ places_after self places.old }
     {
-        match self {
-            WordStep::BeginAllocation { tag } => begin_allocation(words, hand, tag),
-            WordStep::AddBytes { size } => add_bytes(words, hand, size),
-            WordStep::AddCall => add_call(words, hand),
-            WordStep::SubtractBytes { bytes } => subtract_bytes(words, hand, bytes),
-            WordStep::SubtractCall => subtract_call(words, hand),
-            WordStep::Write {
-                key,
-                held,
-                hand: next,
-            } => {
-                places[key as usize] = held;
-                *hand = next;
-            }
-            WordStep::GoIn { .. } | WordStep::GoOut { .. } => {}
+        self.count(words, *hand);
+        *hand = self.hand_after(*hand);
+        if let WordStep::Write { key, held, .. } = self {
+            places[key as usize] = held;
         }
     }
-}
 
-fn begin_allocation(words: &mut CpuWords, hand: &mut Option<Hand>, tag: Tag)
-    requires { CanTake (WordStep.BeginAllocation tag) hand.old (length words.old) 0 }
-    ensures words { words.new ≡ words_after (WordStep.BeginAllocation tag) hand.old words.old }
-    ensures hand { hand.new ≡ hand_after (WordStep.BeginAllocation tag) hand.old }
-{
-    words.raise(Kind::Calls, tag.number, 1);
-    *hand = Some(Hand {
-        tag,
-        bytes: 0,
-        calls: 1,
-        opening: true,
-    });
-}
-
-fn add_bytes(words: &mut CpuWords, hand: &mut Option<Hand>, size: u64)
-    requires { CanTake (WordStep.AddBytes size) hand.old (length words.old) 0 }
-    ensures words { words.new ≡ words_after (WordStep.AddBytes size) hand.old words.old }
-    ensures hand { hand.new ≡ hand_after (WordStep.AddBytes size) hand.old }
-{
-    if let Some(mut held) = *hand {
-        words.raise(Kind::Bytes, held.tag.number, size);
-        held.bytes = size;
-        *hand = Some(held);
+    /// What the step does to the CPU's words.
+    fn count(self, words: &mut CpuWords, hand: Option<Hand>)
+        requires { (places : ℕ) × CanTake self hand (length words.old) places }
+        ensures { words.new ≡ words_after self hand words.old }
+    {
+        match (self, hand) {
+            (WordStep::BeginAllocation { tag }, _) => words.raise(Kind::Calls, tag.number, 1),
+            (WordStep::AddBytes { size }, Some(held)) => {
+                words.raise(Kind::Bytes, held.tag.number, size);
+            }
+            (WordStep::AddCall, Some(held)) => words.raise(Kind::Calls, held.tag.number, 1),
+            (WordStep::SubtractBytes { bytes }, Some(held)) => {
+                words.lower(Kind::Bytes, held.tag.number, bytes);
+            }
+            (WordStep::SubtractCall, Some(held)) => words.lower(Kind::Calls, held.tag.number, 1),
+            _ => {}
+        }
     }
-}
 
-fn add_call(words: &mut CpuWords, hand: &mut Option<Hand>)
-    requires { CanTake WordStep.AddCall hand.old (length words.old) 0 }
-    ensures words { words.new ≡ words_after WordStep.AddCall hand.old words.old }
-    ensures hand { hand.new ≡ hand_after WordStep.AddCall hand.old }
-{
-    if let Some(mut held) = *hand {
-        words.raise(Kind::Calls, held.tag.number, 1);
-        held.calls += 1;
-        *hand = Some(held);
-    }
-}
-
-fn subtract_bytes(words: &mut CpuWords, hand: &mut Option<Hand>, bytes: u64)
-    requires { CanTake (WordStep.SubtractBytes bytes) hand.old (length words.old) 0 }
-    ensures words { words.new ≡ words_after (WordStep.SubtractBytes bytes) hand.old words.old }
-    ensures hand { hand.new ≡ hand_after (WordStep.SubtractBytes bytes) hand.old }
-{
-    if let Some(mut held) = *hand {
-        words.lower(Kind::Bytes, held.tag.number, bytes);
-        held.bytes -= bytes;
-        *hand = Some(held);
-    }
-}
-
-fn subtract_call(words: &mut CpuWords, hand: &mut Option<Hand>)
-    requires { CanTake WordStep.SubtractCall hand.old (length words.old) 0 }
-    ensures words { words.new ≡ words_after WordStep.SubtractCall hand.old words.old }
-    ensures hand { hand.new ≡ hand_after WordStep.SubtractCall hand.old }
-{
-    if let Some(held) = *hand {
-        words.lower(Kind::Calls, held.tag.number, 1);
-        *hand = without_call(held);
+    /// What the CPU has in hand after the step.
+    fn hand_after(self, hand: Option<Hand>) -> Option<Hand>
+        requires { (words places : ℕ) × CanTake self hand words places }
+        ensures { result ≡ hand_after self hand }
+    {
+        match (self, hand) {
+            (WordStep::BeginAllocation { tag }, _) => Some(Hand {
+                tag,
+                bytes: 0,
+                calls: 1,
+                opening: true,
+            }),
+            (WordStep::AddBytes { size }, Some(held)) => Some(Hand {
+                bytes: size,
+                ..held
+            }),
+            (WordStep::AddCall, Some(held)) => Some(Hand {
+                calls: held.calls + 1,
+                ..held
+            }),
+            (WordStep::SubtractBytes { bytes }, Some(held)) => Some(Hand {
+                bytes: held.bytes - bytes,
+                ..held
+            }),
+            (WordStep::SubtractCall, Some(held)) => without_call(held),
+            (WordStep::Write { hand: next, .. }, _) => next,
+            _ => hand,
+        }
     }
 }
 

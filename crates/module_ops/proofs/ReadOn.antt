@@ -1,16 +1,14 @@
 -- Reads of words that aren't the last CPU's, one after another, leave the list as one read over them does.
-use Rattle.std.proofs.Common.{◌≡◌, ℕ, zero, suc, ◌+◌, ◌-◌, ◌*◌, ◌<◌, ◌≤◌, nat_lt, List, [], ◌∷◌, Option, Some, None, length, min, refl, sym, ap, ◌∙◌, subst, arith, Bool, true, false, append-nil, lt-ltb, cond}
+use Rattle.std.proofs.Common.{◌≡◌, ℕ, zero, suc, ◌+◌, ◌*◌, ◌<◌, ◌≤◌, nat_lt, List, [], ◌∷◌, Some, length, refl, sym, ap, ◌∙◌, subst, arith, Bool, true, false, append-nil, lt-ltb}
 use Rattle.tag_model.specs.declared.shape.Shape.{Shape}
 use Rattle.tag_model.specs.declared.state.Reader.{Reader}
 use Rattle.tag_model.specs.declared.state.Sweep.{Sweep}
 use Rattle.tag_model.specs.declared.state.Sweep.TheVariants as sweep
 use Rattle.tag_section.specs.Section.{Section}
-use Rattle.core_list.specs.declared.list.Next.{Next}
-use Rattle.core_list.specs.declared.list.Next.TheVariants.{Nothing, Read, Release}
 use Rattle.core_list.specs.ListState.{ListState, IsList, next_of, read_to, read_to_at}
 use Rattle.module_ops.specs.declared.op.ManagerOp.{ManagerOp}
-use Rattle.module_ops.specs.Modules.{Managing, ModuleTable, CanManage, TellNothing, managed, managed_times, read_of, read_over, reads_in, reads_next, words_ahead, words_at}
-use Rattle.module_ops.proofs.Sweeping.{reads_inside, word_is_there}
+use Rattle.module_ops.specs.Modules.{Managing, ModuleTable, CanManage, TellNothing, managed, managed_times, read_of, read_over, reads_in, reads_next, words_at}
+use Rattle.module_ops.proofs.Sweeping.{reads_inside}
 
 -- ---- the reader keeps its tag
 

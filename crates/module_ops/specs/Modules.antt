@@ -10,7 +10,7 @@ use Rattle.tag_model.specs.declared.state.Kind.{Kind}
 use Rattle.tag_model.specs.Shape.{IsChecked}
 use Rattle.tag_model.specs.Laws.{sweep_fits}
 use Rattle.tag_model.specs.WordState.{word_place}
-use Rattle.tag_section.specs.Section.{Section}
+use Rattle.tag_section.specs.Section.{Section, tags_in}
 use Rattle.module_area.specs.declared.entry.Entry.{Entry}
 use Rattle.module_area.specs.declared.entry.State.TheVariants.{Loaded}
 use Rattle.module_area.specs.declared.book.TheConstants.{USER_LIMIT}
@@ -29,9 +29,9 @@ use Rattle.module_ops.specs.declared.event.Event.TheVariants.{Stepped, Released,
 use Rattle.cpu_ops.specs.declared.refused.StepRefused.{StepRefused}
 use Rattle.cpu_ops.specs.declared.refused.StepRefused.TheVariants.{NoStep, NotLoaded, AlreadyLoaded, Busy, Full, NoRoom}
 use Rattle.cpu_ops.specs.declared.step.WordStep.{WordStep}
-use Rattle.cpu_ops.specs.declared.step.WordStep.TheVariants.{BeginAllocation, AddBytes, AddCall, SubtractBytes, SubtractCall, Write, GoIn, GoOut}
+use Rattle.cpu_ops.specs.declared.step.WordStep.TheVariants.{GoIn, GoOut}
 use Rattle.cpu_ops.specs.Machine.{Scene, run_at}
-use Rattle.cpu_ops.specs.MayQueue.{IsModule, section_len}
+use Rattle.cpu_ops.specs.MayQueue.{IsModule}
 
 -- the manager's ops, in order, and whether the first is under way
 pub record Managing : Type 0 where
@@ -96,7 +96,7 @@ unload_refused section (Some e) = if e.users == 0 then None else Some (Busy e.us
 
 -- the first step of an op of the manager
 abbrev pub manager_first : List Section → ListState → ManagerOp → Option StepRefused
-manager_first sections list (Load section) = option_map (load_refused section) (load_refusal section (section_len sections section) list)
+manager_first sections list (Load section) = option_map (load_refused section) (load_refusal section (tags_in sections section) list)
 manager_first sections list (Unload section) = unload_refused section (loaded_entry section list)
 manager_first sections list Clean = None
 
@@ -127,7 +127,7 @@ unloads ms op ops (Some e) = swept_on ms op ops (dead_list e.id ms.list)
 
 -- the first step: load is over with it; unload marks dead and begins a sweep; clean begins a sweep of all that are dead
 abbrev pub begins_op : List Section → ModuleTable → ManagerOp → List ManagerOp → ModuleTable
-begins_op sections ms (Load section) ops = record ms { list = loaded section (section_len sections section) ms.list; manager = record { ops = ops; under_way = false } }
+begins_op sections ms (Load section) ops = record ms { list = loaded section (tags_in sections section) ms.list; manager = record { ops = ops; under_way = false } }
 begins_op sections ms (Unload section) ops = unloads ms (Unload section) ops (loaded_entry section ms.list)
 begins_op sections ms Clean ops = swept_on ms Clean ops (swept_list ms.list)
 
@@ -250,7 +250,7 @@ IsManagerOp sections Clean = Unit {0}
 pub record CanManage (k : Shape) (sections : List Section) (words : List (List ℕ)) (ms : ModuleTable) : Type 0 where
   pub checked : IsChecked k
   pub ops : AllByRecursion (IsManagerOp sections) ms.manager.ops
-  pub some_tag : (section : ℕ) → section < length sections → 1 ≤ section_len sections section
+  pub some_tag : (section : ℕ) → section < length sections → 1 ≤ tags_in sections section
   pub cpus : length words ≡ k.cpus
   pub own_words : (cpu : ℕ) → cpu < k.cpus → length (words_at words cpu) ≡ 2 * k.tags
   pub area : ms.list.area.first + ms.list.area.tags ≡ k.tags

@@ -2,7 +2,6 @@
 #![tactic(auto)]
 
 mod event;
-mod managing;
 mod modules;
 mod op;
 

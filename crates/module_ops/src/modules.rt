@@ -1,32 +1,33 @@
 //! The modules of the machine: who is inside which, the module list, and what the manager does.
 
-ghost use Rattle.std.specs.Prelude.{ℕ, ◌≡◌, ◌+◌, ◌*◌, ◌∷◌, List, ◌<◌, ◌≤◌, ◌↔◌, [], IsTrue, length, min, replicate, IfOk, OnOk, OnErr, MatchOption, false};
+ghost use Rattle.std.specs.Prelude.{ℕ, ◌≡◌, ◌+◌, ◌*◌, ◌∷◌, List, ◌<◌, ◌≤◌, ◌↔◌, [], IsTrue, length, min, replicate, IfOk, OnOk, OnErr, MatchOption, drop, false};
 ghost use Rattle.tag_model.specs.Shape.{IsChecked};
-ghost use Rattle.tag_section.specs.Section.{Section};
+ghost use Rattle.tag_section.specs.Section.{Section, tags_in};
 ghost use Rattle.module_area.specs.Entries.{entry_of};
 ghost use Rattle.core_list.specs.ListState.{IsList, loaded_entry, load_refusal, loaded, swept_list, next_of, run_of, section_in, start_in};
 ghost use Rattle.cpu_ops.specs.declared.op.TheConstants.{MAX_QUEUED};
-ghost use Rattle.cpu_ops.specs.MayQueue.{section_len};
 ghost use Rattle.module_ops.specs.declared.op.ManagerOp.{ManagerOp};
 ghost use Rattle.module_ops.specs.Modules.{inside_at, scene_at, modules_after, manager_refusal, manager_first, unload_refused, begins_op, unloads, swept_on, sweep_goes, event_of_sweep, managed, managed_times, manager_event, read_over, reads_next, words_ahead, TellNothing, word_in, word_read, load_refused, cause_of, kept_by, ListFits, CanManage, IsManagerOp, fresh_modules, with_managed, words_at};
 
 use crate::event::{Cause, Event};
-use crate::managing::Managing;
 use crate::op::ManagerOp;
 use core_list::{CoreList, Next};
 use cpu_ops::{CpuWords, Inside, MAX_QUEUED, QueueError, Scene, StepRefused, WordStep};
 use module_area::{AreaError, Entry};
 use std::alloc::{AllocError, Global};
+use std::collections::VecDeque;
 use std::marker::Model;
 use tag_model::{Kind, Reader, Run, Shape, Stop};
 use tag_section::Sections;
 
-/// The modules, by CPU and section, with their list and their manager.
+/// The modules, by CPU and section, with their list, the manager's ops in order, and whether the first of these is under
+/// way: then the manager holds the list.
 #[derive(Drop)]
 pub struct ModuleTable {
     inside: Vec<Inside>,
     list: CoreList,
-    manager: Managing,
+    ops: VecDeque<ManagerOp>,
+    under_way: bool,
 }
 
 impl Model for ModuleTable {
@@ -34,7 +35,7 @@ impl Model for ModuleTable {
 
     ghost Value = { ModuleTable };
 
-    ghost view = { λ m. record { inside = m.inside.items; list = m.list; manager = m.manager } };
+    ghost view = { λ m. record { inside = m.inside.items; list = m.list; manager = record { ops = m.ops.items; under_way = m.under_way } } };
 }
 
 fn no_runs(alloc: Global, cpus: u32, sections: u32) -> Result<Vec<Inside>, AllocError>
@@ -127,7 +128,8 @@ impl ModuleTable {
         Ok(ModuleTable {
             inside: no_runs(alloc, shape.cpus, sections)?,
             list: CoreList::new(alloc, shape.kernel_tags, shape.tags - shape.kernel_tags)?,
-            manager: Managing::new(alloc),
+            ops: VecDeque::new(alloc),
+            under_way: false,
         })
     }
 
@@ -146,14 +148,14 @@ impl ModuleTable {
         requires { cpu < length self.now.inside }
         ensures { result ≡ scene_at self.now cpu }
     {
-        Scene::new(self.manager.is_under_way(), &self.list, &self.inside[cpu])
+        Scene::new(self.under_way, &self.list, &self.inside[cpu])
     }
 
     /// Whether the manager has nothing queued or under way.
     pub fn is_idle(&self) -> bool
         ensures { IsTrue result ↔ (self.now.manager.ops ≡ []) }
     {
-        self.manager.is_empty()
+        self.ops.is_empty()
     }
 
     /// Puts the op behind those that the manager has queued or under way.
@@ -162,10 +164,13 @@ impl ModuleTable {
         ensures full { (result ≡ Err QueueError.QueueFull) ↔ (MAX_QUEUED ≤ length self.old.manager.ops) }
         ensures err { OnErr result (self.new ≡ self.old) }
     {
-        if self.manager.len() >= MAX_QUEUED {
+        if self.ops.len() >= MAX_QUEUED {
             return Err(QueueError::QueueFull);
         }
-        self.manager.push(op).map_err(QueueError::Memory)
+        match self.ops.push_back(op) {
+            Ok(()) => Ok(()),
+            Err(_refused) => Err(QueueError::Memory(AllocError)),
+        }
     }
 
     /// What a CPU's step changes: it goes into a module, or out of it.
@@ -217,10 +222,10 @@ impl ModuleTable {
         ensures ok { OnOk result (self.new ≡ managed shape sections.now words.now self.old) }
         ensures err { OnErr result (self.new ≡ self.old) }
     {
-        let Some(op) = self.manager.first() else {
+        let Some(op) = self.ops.front().copied() else {
             return Err(StepRefused::NoStep);
         };
-        if self.manager.is_under_way() {
+        if self.under_way {
             return Ok(self.continue_sweep(shape, words, cause_of(op)));
         }
         self.begin(op, sections)?;
@@ -230,7 +235,7 @@ impl ModuleTable {
     /// The first step of an op.
     fn begin(&mut self, op: ManagerOp, sections: &Sections) -> Result<(), StepRefused>
         requires op { IsManagerOp sections.now op }
-        requires some_tag { (section : ℕ) → section < length sections.now → 1 ≤ section_len sections.now section }
+        requires some_tag { (section : ℕ) → section < length sections.now → 1 ≤ tags_in sections.now section }
         ensures answer { MatchOption (manager_first sections.now self.old.list op) (result ≡ Ok tt) (λ why. result ≡ Err why) }
         ensures ok { (ops : List ManagerOp) → self.old.manager.ops ≡ op ∷ ops → OnOk result (self.new ≡ begins_op sections.now self.old op ops) }
         ensures err { OnErr result (self.new ≡ self.old) }
@@ -256,7 +261,7 @@ impl ModuleTable {
         if let Err(why) = self.list.load(section, tags) {
             return Err(load_refused(section, why));
         }
-        self.manager.end();
+        self.end_op();
         Ok(())
     }
 
@@ -293,10 +298,18 @@ impl ModuleTable {
             → self.new ≡ swept_on self.old op ops self.old.list }
     {
         if self.list.next() == Next::Nothing {
-            self.manager.end();
+            self.end_op();
         } else {
-            self.manager.hold();
+            self.under_way = true;
         }
+    }
+
+    /// The first op is over.
+    fn end_op(&mut self)
+        ensures { self.new ≡ record self.old { manager = record { ops = drop 1 self.old.manager.ops; under_way = false } } }
+    {
+        self.ops.pop_front();
+        self.under_way = false;
     }
 
     /// A sweep takes its next step, and the op goes on.
@@ -334,7 +347,7 @@ impl ModuleTable {
         ensures holds { IsList self.now.list }
     {
         let next = self.list().next();
-        match (self.manager.first(), self.manager.is_under_way(), next) {
+        match (self.ops.front(), self.under_way, next) {
             (Some(_op), true, Next::Read(reader)) => Some(reader),
             _ => None,
         }

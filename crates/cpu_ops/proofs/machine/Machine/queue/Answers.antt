@@ -1,8 +1,8 @@
-use Rattle.std.proofs.Common.{◌≡◌, Result, Ok, Err, OnOk, OnErr, List, Bool, ℕ, ◌<◌, [], length, set, get_or, ap, ◌∙◌, sym, subst, arith, refl}
+use Rattle.std.proofs.Common.{◌≡◌, Result, Ok, Err, OnOk, OnErr, List, Bool, ℕ, ◌<◌, [], length, set, get_or, ap, ◌∙◌, sym, subst}
 use Rattle.std.proofs.lemmas.List.{set-get_or, get_or_default}
 use Rattle.tag_model.specs.declared.state.Held.{Held}
 use Rattle.cpu_ops.specs.declared.op.CpuOp.{CpuOp}
-use Rattle.cpu_ops.specs.Machine.{Waiting, nothing_waits, with_op, Machine, waiting_at}
+use Rattle.cpu_ops.specs.Machine.{Waiting, nothing_waits, with_op, Machine}
 use Rattle.cpu_ops.specs.Reserved.{AreReserved}
 use Rattle.cpu_ops.proofs.Flags.{reserved_queued}
 use Rattle.cpu_ops.proofs.machine.Machine.queue.Goals as goal

@@ -1,7 +1,6 @@
-use Rattle.std.proofs.Common.{◌≡◌, ◌==◌, cond, None, ap, ◌∙◌, sym, subst, arith, refl, List, ◌++◌, drop, take, length}
+use Rattle.std.proofs.Common.{◌≡◌, ◌==◌, cond, None, ap, ◌∙◌, sym, subst, arith, List, ◌++◌, drop, take, length}
 use Rattle.tag_model.specs.declared.state.Held.{Held}
 use Rattle.cpu_ops.specs.Machine.{Machine, CanGo, machine_of, step_of, first_refusal}
-use Rattle.cpu_ops.specs.Reserved.{AreReserved}
 use Rattle.cpu_ops.proofs.Going.{step_takes, flags_after, length-places, written}
 use Rattle.cpu_ops.proofs.machine.Machine.step.Goals as goal
 

@@ -1,4 +1,4 @@
-use Rattle.std.proofs.Common.{◌≡◌, ◌+◌, ◌<◌, ℕ, Some, sym, ap, ◌∙◌, subst, arith}
+use Rattle.std.proofs.Common.{◌≡◌, Some, sym, ap, ◌∙◌, arith}
 use Rattle.tag_model.specs.declared.state.Reader.{Reader}
 use Rattle.core_list.specs.ListState.{ListState, read_to}
 use Rattle.module_ops.specs.Modules.{ModuleTable, managed_times, read_over, reads_next}
@@ -11,7 +11,7 @@ read_over-next-requires-clause-tags c = (reads_there c.args.shape c.requires.0 c
 pub returns-clause-after : goal.returns-clause-after
 returns-clause-after c = λ sections.
     let s = c.self.inside in
-    let ms : ModuleTable = record { inside = s.inside.items; list = s.list; manager = s.manager } in
+    let ms : ModuleTable = record { inside = s.inside.items; list = s.list; manager = record { ops = s.ops.items; under_way = s.under_way } } in
     let k = c.args.shape in
     let words = c.args.words.now in
     let r = c.in-Some.reader in

@@ -10,7 +10,7 @@ mark_dead-requires c = loaded_unused c.args.section c.self.inside.list c.in-Some
 pub returns-clause-ok : goal.returns-clause-ok
 returns-clause-ok c op ops first =
     let s = c.self.inside in
-    let old : ModuleTable = record { inside = s.inside.items; list = s.list; manager = s.manager } in
+    let old : ModuleTable = record { inside = s.inside.items; list = s.list; manager = record { ops = s.ops.items; under_way = s.under_way } } in
     let is : old ≡ c.args.self.now = c.self.view_is in
     let dead : c.end_or_hold.new.self ≡ swept_on old op ops (dead_list c.in-Some.entry.id s.list) =
     c.end_or_hold.ensures op ops (subst (λ (m : ModuleTable). m.manager.ops ≡ op ∷ ops) (sym is) first) ∙ ap (λ l. swept_on old op ops l) c.mark_dead.ensures in
