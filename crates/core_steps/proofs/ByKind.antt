@@ -1,5 +1,5 @@
 -- A step of the core by its kind: it is one of the step rules, of this kind, and begins a pass as this kind does.
-use Rattle.std.proofs.Common.{◌≡◌, ℕ, zero, suc, ◌+◌, ◌-◌, ◌*◌, ◌<◌, ◌≤◌, ◌==◌, ◌&&◌, nat_lt, List, [], ◌∷◌, ◌++◌, length, replicate, refl, sym, ap, ◌∙◌, subst, arith, Bool, true, false, not, cond, Option, Some, None, IsSomeAnd, lt-ltb, le-ltb, ne_eqb, inl, inr}
+use Rattle.std.proofs.Common.{◌≡◌, ℕ, zero, suc, ◌+◌, ◌-◌, ◌<◌, ◌==◌, ◌&&◌, nat_lt, List, ◌++◌, length, replicate, refl, sym, ap, ◌∙◌, arith, true, false, not, cond, Option, Some, None, IsSomeAnd, lt-ltb, le-ltb, ne_eqb, inl, inr}
 use Rattle.std.specs.Prelude.{slice_get}
 use Rattle.std.proofs.lemmas.Bool.{cases_lt}
 use Rattle.tag_model.specs.declared.shape.Shape.{Shape}
@@ -19,7 +19,7 @@ use Rattle.cpu_ops.specs.declared.op.CpuOp.TheVariants.{Open, Close, Split, Swap
 use Rattle.cpu_ops.specs.declared.step.WordStep.{WordStep}
 use Rattle.cpu_ops.specs.declared.step.WordStep.TheVariants.{BeginAllocation, AddBytes, AddCall, SubtractBytes, SubtractCall, Write, GoIn, GoOut}
 use Rattle.cpu_ops.specs.Machine.{share_step, step_count, step_of, part_key}
-use Rattle.core_steps.specs.Kinds.{StepKind, GoesAs, begins_as, kind_in, row_kind, scan_of, steps_of}
+use Rattle.core_steps.specs.Kinds.{StepKind, GoesAs, begins_as, row_kind, scan_of, steps_of}
 
 pub data GoesBy (k : Shape) (kind : StepKind) (after : Sweep) (old new : List Part) : Type 0 where
   alone : (steps : Steps k old new) → row_kind steps.row ≡ kind → history.pass_begun steps.row ≡ begins_as (Some kind) after → GoesBy k kind after old new

@@ -21,12 +21,11 @@ use Rattle.module_area.specs.Entries.{entered, left as one_left}
 use Rattle.core_list.specs.ListState.{ListState, IsList, entered_list, left_list, list_part, loaded_entry, run_of, with_changed}
 use Rattle.core_list.proofs.Changes.{enters_run, leaves_run, row-enters, row-leaves}
 use Rattle.core_list.proofs.Kept.{list_entered, list_left}
-use Rattle.tag_section.specs.Section.{Section}
+use Rattle.tag_section.specs.Section.{Section, tags_in}
 use Rattle.cpu_ops.specs.declared.refused.StepRefused.TheVariants.{ListHeld, NotRunning, Inside, NotLoaded}
 use Rattle.cpu_ops.specs.declared.step.WordStep.TheVariants.{GoIn, GoOut}
 use Rattle.cpu_ops.specs.Machine.{hand_at, run_at, enter_refusal, leave_refusal}
 use Rattle.module_ops.specs.Modules.{ModuleTable, goes_in, goes_out, inside_at, modules_after, scene_at, with_inside}
-use Rattle.cpu_ops.specs.MayQueue.{section_len}
 use Rattle.core_steps.specs.CoreState.{AreModules, CoreState, EntryFits, IsCore, RunFits, runs_in, runs_of, state_of, state_with, state_after}
 use Rattle.module_ops.specs.Modules.{HasUserLeft, ListFits}
 use Rattle.core_steps.proofs.InsideFacts.{IsInside, put_in, taken_out}
@@ -197,7 +196,7 @@ run_fits k sections ms ok section e loaded =
     record {
       some_id = All-contains (λ x. 0 < x.id) ms.list.area.entries e ok.list.book.above_zero loaded.there;
       of_section = loaded.of_section;
-      all_tags = fits.all_tags ∙ ap (section_len sections) loaded.of_section;
+      all_tags = fits.all_tags ∙ ap (tags_in sections) loaded.of_section;
       in_shape = omega (arith, lies, ok.tags);
     }
 

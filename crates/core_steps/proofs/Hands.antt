@@ -7,9 +7,9 @@ use Rattle.tag_model.specs.declared.state.Held.{Held}
 use Rattle.tag_model.specs.declared.state.Held.TheVariants as held
 use Rattle.tag_model.specs.declared.state.Kind.{Kind}
 use Rattle.tag_model.specs.declared.limits.TheConstants.{SIZE_END}
-use Rattle.tag_model.specs.Reference.{hand_counts_of, held_counts_of, held_fits, hand_fits, is_settled}
+use Rattle.tag_model.specs.Reference.{hand_counts_of, held_counts_of, held_fits, hand_fits, is_settled, is_counted}
 use Rattle.cpu_ops.specs.declared.refused.StepRefused.{StepRefused}
-use Rattle.cpu_ops.specs.Machine.{in_hand, put_down, bytes_in, size_of, is_counted, less_bytes}
+use Rattle.cpu_ops.specs.Machine.{in_hand, put_down, bytes_in, size_of, less_bytes}
 use Rattle.core_steps.specs.CoreState.{HoldsReference, HoldsCall, settled_hand}
 use Rattle.core_steps.proofs.Takes.{CanWrite, InHand, CanSubtractBytes, CanSubtractCall}
 

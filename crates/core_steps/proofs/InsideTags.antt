@@ -1,26 +1,18 @@
 -- The tag of an allocation of a CPU that is inside a module.
 use Rattle.std.specs.Prelude.{is_some}
-use Rattle.std.proofs.Common.{◌≡◌, ℕ, ◌+◌, ◌<◌, ◌==◌, ◌&&◌, ◌^◌, ◌⊎◌, nat_lt, List, length, if◌then◌else◌, inl, inr, refl, sym, ap, ◌∙◌, subst, arith, Bool, true, false, not, Option, Some, None, eq-eqb, eqb-true, ne_eqb, lt-ltb}
+use Rattle.std.proofs.Common.{◌≡◌, ℕ, ◌+◌, ◌<◌, ◌==◌, ◌&&◌, ◌⊎◌, nat_lt, List, inl, inr, refl, sym, ap, ◌∙◌, subst, arith, Bool, true, false, not, Option, Some, None, eq-eqb, eqb-true, ne_eqb, lt-ltb}
 use Rattle.std.specs.List.{list_any}
-use Rattle.std.proofs.lemmas.Bool.{and_from, false≢true, cond-true, cond-false, cases_Bool}
-use Rattle.tag_model.specs.declared.state.Held.{Held}
+use Rattle.std.proofs.lemmas.Bool.{and_from, cond-true, cond-false}
 use Rattle.tag_model.specs.declared.state.Run.{Run}
 use Rattle.tag_model.specs.declared.state.Tag.{Tag}
 use Rattle.tag_model.specs.StepRules.{may_begin}
 use Rattle.tag_model.specs.WordState.{in_range}
 use Rattle.tag_model.proofs.Found.{any_at}
 use Rattle.tag_model.proofs.Lists.{in_range_from}
-use Rattle.tag_section.specs.Section.{AreSections, tag_limit}
-use Rattle.tag_section.specs.declared.sections.TheConstants.{KERNEL_TAG_LIMIT, MODULE_TAG_LIMIT}
-use Rattle.cpu_ops.specs.declared.op.CpuOp.{CpuOp}
-use Rattle.cpu_ops.specs.declared.op.CpuOp.TheVariants.{Open, Close, Split, Swap, Trim, Enter, Leave}
-use Rattle.cpu_ops.specs.declared.refused.StepRefused.TheVariants.{KeyUsed, NotRunning}
-use Rattle.cpu_ops.specs.Machine.{Waiting, is_used, open_refusal, run_at, is_outside, kernel_tag, module_tag, tag_in}
+use Rattle.cpu_ops.specs.Machine.{run_at, is_outside, kernel_tag, module_tag, tag_in}
 use Rattle.module_ops.specs.Modules.{inside_at}
-use Rattle.cpu_ops.specs.MayQueue.{section_len}
+use Rattle.tag_section.specs.Section.{tags_in}
 use Rattle.core_steps.specs.CoreState.{CoreState, IsCore, runs_of}
-use Rattle.cpu_ops.specs.MayQueue.{IsOp}
-use Rattle.cpu_ops.specs.Machine.{TagFits}
 use Rattle.core_steps.proofs.InsideFacts.{IsInside, taken_out}
 
 -- ---- the tag of an allocation
@@ -38,11 +30,11 @@ not_outside section inside e = at (section == 0) refl e
     at false other e = slot other (run_at inside section) refl e
 
 -- an allocation may begin under a tag of the kernel, or of the module that the CPU is inside; its number is one of the shape's
-pub begins_in : (s : CoreState) → IsCore s → (cpu : ℕ) → cpu < s.shape.cpus → (section index : ℕ) → index < section_len s.sections section → is_outside section (inside_at s.modules cpu) ≡ false
+pub begins_in : (s : CoreState) → IsCore s → (cpu : ℕ) → cpu < s.shape.cpus → (section index : ℕ) → index < tags_in s.sections section → is_outside section (inside_at s.modules cpu) ≡ false
     → (may_begin s.shape (tag_in (inside_at s.modules cpu) section index) (runs_of s.modules cpu) ≡ true) × ((tag_in (inside_at s.modules cpu) section index).number < s.shape.tags)
 begins_in s core cpu below section index has in_it = elim (not_outside section (inside_at s.modules cpu) in_it) [
   | inl kernel ↦
-      let there : index < s.shape.kernel_tags = omega (arith, subst (λ (x : ℕ). index < section_len s.sections x) kernel has, core.sections.kernel_fits) in
+      let there : index < s.shape.kernel_tags = omega (arith, subst (λ (x : ℕ). index < tags_in s.sections x) kernel has, core.sections.kernel_fits) in
       let tag : tag_in (inside_at s.modules cpu) section index ≡ kernel_tag index = cond-true (section == 0) (kernel_tag index) (module_tag (run_at (inside_at s.modules cpu) section) index) (eq-eqb section 0 kernel) in
       for_tag _ (sym tag) (lt-ltb index s.shape.kernel_tags there, omega (arith, core.shape.few_kernel_tags))
   | inr inside ↦

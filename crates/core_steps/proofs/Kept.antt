@@ -1,5 +1,5 @@
 -- A core stays a core: what a step of a CPU leaves of the whole machine.
-use Rattle.std.proofs.Common.{◌≡◌, ◌≢◌, ℕ, ◌+◌, ◌-◌, ◌*◌, ◌<◌, ◌≤◌, ◌==◌, nat_lt, cond, Bool, List, [], ◌∷◌, ◌++◌, length, get_or, set, refl, sym, ap, ◌∙◌, subst, arith, Option, Some, None, true, false, inl, inr, Result, Ok, Err, OnOk, MatchOption, IsOkAnd, IsSomeAnd}
+use Rattle.std.proofs.Common.{◌≡◌, ◌≢◌, ℕ, ◌+◌, ◌-◌, ◌*◌, ◌<◌, ◌≤◌, ◌==◌, nat_lt, cond, Bool, List, [], ◌∷◌, length, get_or, set, refl, sym, ap, ◌∙◌, subst, arith, Option, Some, None, true, false, inl, inr, Result, Ok, Err, OnOk, MatchOption, IsOkAnd, IsSomeAnd}
 use Rattle.std.proofs.lemmas.Option.{same_Some}
 use Rattle.module_ops.specs.declared.event.Event.{Event}
 use Rattle.cpu_ops.specs.declared.refused.StepRefused.{StepRefused}
@@ -34,7 +34,8 @@ use Rattle.cpu_ops.specs.Machine.{SectionsFit, TagFits, CanGo, CanStep}
 use Rattle.module_ops.specs.Modules.{ListFits, words_at}
 use Rattle.cpu_ops.specs.MayQueue.{IsOp}
 use Rattle.core_steps.proofs.Ready.{Next, next, others_ready, reserved as under_way_reserves, free_key, running_first}
-use Rattle.core_steps.proofs.Takes.{IsRuled, places_fit, leads_step, hand_seen, can_take, length-places_after, length-words_after}
+use Rattle.core_steps.proofs.Takes.{IsRuled, places_fit, leads_step, hand_seen, can_take, length-words_after}
+use Rattle.cpu_ops.proofs.Going.{length-places}
 
 -- ---- keys
 
@@ -112,7 +113,7 @@ module _ (cpus : ℕ) (sections : List Section) (scene : Scene) (m : Machine) (c
   stepped_machine = record {
     hands = length-set m.hands cpu (hand_after (step_of op done (hand_at m cpu) m.places inside) (hand_at m cpu)) ∙ is.hands;
     waiting = length-set m.waiting cpu (advanced (op ∷ ops) done) ∙ is.waiting;
-    places = length-places_after (step_of op done (hand_at m cpu) m.places inside) m.places ∙ is.places;
+    places = length-places (step_of op done (hand_at m cpu) m.places inside) m.places ∙ is.places;
     ready = λ j within. elim (cases_eq j cpu) [
       | inl e ↦ subst (IsReadyAt sections after) (sym e) ready_here
       | inr ne ↦ ready_there j within ne

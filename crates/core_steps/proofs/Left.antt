@@ -1,18 +1,15 @@
 -- A step that is taken leaves its actor one step less.
-use Rattle.std.proofs.Common.{◌≡◌, ℕ, ◌+◌, ◌-◌, ◌<◌, ◌==◌, List, [], ◌∷◌, length, refl, sym, ap, ◌∙◌, arith, Some, None, Bool, true, false, inl, inr, sum_by, Result, Ok, Err, OnOk}
+use Rattle.std.proofs.Common.{◌≡◌, ℕ, ◌+◌, ◌-◌, ◌<◌, ◌==◌, List, [], ◌∷◌, length, refl, sym, ap, ◌∙◌, arith, Some, None, Bool, true, false, inl, inr, sum_by}
 use Rattle.std.proofs.lemmas.Bool.Decides.{nat_tests}
 use Rattle.std.proofs.lemmas.Bool.{cases_lt}
 use Rattle.std.proofs.lemmas.List.{get_or-set_same, get_or_past}
 use Rattle.std.proofs.lemmas.List.Sums.{sum_by-cons}
 use Rattle.cpu_ops.specs.declared.op.CpuOp.{CpuOp}
-use Rattle.module_ops.specs.declared.event.Event.{Event}
-use Rattle.cpu_ops.specs.declared.refused.StepRefused.{StepRefused}
 use Rattle.cpu_ops.specs.declared.refused.StepRefused.TheVariants.{NoStep}
 use Rattle.cpu_ops.specs.Machine.{Machine, Waiting, nothing_waits, waiting_at, step_count, advanced, refusal_in, stepped_by, after_step}
 use Rattle.core_steps.specs.CoreState.{CoreState, IsCore, refused}
 use Rattle.cpu_ops.specs.Machine.{CanStep}
 use Rattle.core_steps.specs.declared.op.Actor.TheVariants as actor
-use Rattle.module_ops.specs.declared.event.Event.TheVariants.{Stepped}
 use Rattle.module_ops.specs.Modules.{ModuleTable, inside_at, scene_at}
 use Rattle.core_steps.proofs.Kept.{can_go}
 use Rattle.module_ops.specs.Modules.{words_at}

@@ -13,7 +13,7 @@ use Rattle.tag_model.specs.StepRules.{Becomes}
 use Rattle.tag_model.proofs.BookRows.{safe-reads}
 use Rattle.tag_model.proofs.ListRows.{list_alone}
 use Rattle.tag_model.proofs.Told.{sweep_in_bounds}
-use Rattle.tag_section.specs.Section.{Section}
+use Rattle.tag_section.specs.Section.{Section, tags_in}
 use Rattle.module_area.specs.declared.book.AreaError.{AreaError}
 use Rattle.module_area.specs.declared.entry.Entry.{Entry}
 use Rattle.core_list.specs.ListState.{ListState, left_ids, list_part, records_of, dead_list, load_refusal, loaded, loaded_entry, next_of, released, scanned, swept_list}
@@ -26,7 +26,6 @@ use Rattle.module_ops.specs.declared.op.ManagerOp.{ManagerOp}
 use Rattle.module_ops.specs.declared.op.ManagerOp.TheVariants.{Load, Unload, Clean}
 use Rattle.cpu_ops.specs.declared.refused.StepRefused.{StepRefused}
 use Rattle.module_ops.specs.Modules.{ModuleTable, begins_op, is_nothing, load_refused, managed, managed_by, manager_first, manager_reads, manager_refusal, manager_refusal_in, swept_on, unload_refused, unloads, word_read, words_read, sweep_goes}
-use Rattle.cpu_ops.specs.MayQueue.{section_len}
 use Rattle.core_steps.specs.Kinds.{StepKind, first_of, manager_kind, scan_of, sweep_step}
 use Rattle.core_steps.proofs.Parts.{becomes_list}
 
@@ -74,8 +73,8 @@ can_manage s core = record {
 
 -- what a step of the op, behind which these wait, makes of the modules, and how many words it reads
 pub data Manages (k : Shape) (sections : List Section) (words : List (List ℕ)) (ms : ModuleTable) (op : ManagerOp) (ops : List ManagerOp) : Option StepKind → ℕ → ModuleTable → Type 0 where
-  loads : (section : ℕ) → ms.manager.under_way ≡ false → IsModule sections section → load_refusal section (section_len sections section) ms.list ≡ None
-      → Manages k sections words ms op ops (Some StepKind.Load) 0 (record ms { list = loaded section (section_len sections section) ms.list; manager = record { ops = ops; under_way = false } })
+  loads : (section : ℕ) → ms.manager.under_way ≡ false → IsModule sections section → load_refusal section (tags_in sections section) ms.list ≡ None
+      → Manages k sections words ms op ops (Some StepKind.Load) 0 (record ms { list = loaded section (tags_in sections section) ms.list; manager = record { ops = ops; under_way = false } })
   marks_dead : (section : ℕ) (e : Entry) → ms.manager.under_way ≡ false → loaded_entry section ms.list ≡ Some e → e.users ≡ 0 → Manages k sections words ms op ops (Some StepKind.MarkDead) 0 (swept_on ms op ops (dead_list e.id ms.list))
   sweeps : ms.manager.under_way ≡ false → Manages k sections words ms op ops (Some StepKind.BeginSweep) 0 (swept_on ms op ops (swept_list ms.list))
   scans : (left : List ℕ) (r : Reader) → ms.manager.under_way ≡ true → ms.list.sweep ≡ sweep.Reading left r → Manages k sections words ms op ops (Some (scan_of r.pass)) 1 (swept_on ms op ops (scanned k (word_read words r) ms.list))

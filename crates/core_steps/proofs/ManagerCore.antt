@@ -6,7 +6,7 @@ use Rattle.tag_model.specs.declared.shape.Shape.{Shape}
 use Rattle.tag_model.specs.declared.state.Sweep.{Sweep}
 use Rattle.tag_model.specs.declared.state.Sweep.TheVariants as sweep
 use Rattle.tag_model.specs.Laws.{sweep_fits}
-use Rattle.tag_section.specs.Section.{Section}
+use Rattle.tag_section.specs.Section.{Section, tags_in}
 use Rattle.module_area.specs.declared.entry.Entry.{Entry}
 use Rattle.module_area.specs.Entries.{kept}
 use Rattle.core_list.specs.ListState.{ListState, IsList, dead_list, loaded, new_entry, next_of, records_of, released, released_at, scanned, scanned_at, swept_list}
@@ -14,7 +14,6 @@ use Rattle.core_list.proofs.Kept.{list_dead_marked, list_loaded, list_released, 
 use Rattle.core_steps.specs.declared.op.Actor.TheVariants as actor
 use Rattle.module_ops.specs.declared.op.ManagerOp.{ManagerOp}
 use Rattle.module_ops.specs.Modules.{Managing, ModuleTable, is_nothing, managed, managed_on, manager_refusal, word_read}
-use Rattle.cpu_ops.specs.MayQueue.{section_len}
 use Rattle.core_steps.specs.CoreState.{AreModules, CoreState, EntryFits, IsCore, queued_manager, stepped}
 use Rattle.module_ops.specs.Modules.{IsManagerOp}
 use Rattle.core_steps.specs.Kinds.{StepKind}
@@ -99,7 +98,7 @@ modules_with k sections ms list m are keeps on = record {
 modules_after : (s : CoreState) → IsCore s → (op : ManagerOp) (ops : List ManagerOp) (kind : Option StepKind) (n : ℕ) (after : ModuleTable) → AllByRecursion (IsManagerOp s.sections) (op ∷ ops) → Manages s.shape s.sections s.words s.modules op ops kind n after → AreModules s.shape s.sections after
 modules_after s core op ops kind n after are (Manages.loads section starts is none) =
     let l = s.modules.list in
-    let size = section_len s.sections section in
+    let size = tags_in s.sections section in
     let of_new : EntryFits s.sections (new_entry section size l) = record { of_module = is; all_tags = refl } in
     modules_with s.shape s.sections s.modules (loaded section size l) (record { ops = ops; under_way = false }) core.modules
     (record { list = list_loaded l section size core.modules.list (core.sections.some_tag section is.has_section) none; first = refl; tags = refl; entries = All-push (EntryFits s.sections) l.area.entries (new_entry section size l) core.modules.entries of_new })

@@ -1,7 +1,7 @@
 -- A kept range is told exactly where the last CPU's word is read and the sum isn't 0; and a module that is gone was told as released.
-use Rattle.std.proofs.Common.{◌≡◌, ◌≢◌, ℕ, ◌+◌, ◌-◌, ◌<◌, ◌≤◌, ◌==◌, ◌&&◌, nat_lt, inl, inr, List, [], ◌∷◌, ◌++◌, filter, map, refl, sym, ap, ◌∙◌, subst, arith, Bool, true, false, not, cond, Option, Some, None, ne_eqb, le-ltb, ltb-true, lt-ltb, eqb-true, eq-eqb}
+use Rattle.std.proofs.Common.{◌≡◌, ◌≢◌, ℕ, ◌+◌, ◌-◌, ◌≤◌, ◌==◌, ◌&&◌, nat_lt, inl, inr, List, [], ◌∷◌, ◌++◌, refl, sym, ap, ◌∙◌, subst, arith, Bool, true, false, not, cond, Option, Some, None, ne_eqb, le-ltb, eqb-true, eq-eqb}
 use Rattle.std.specs.Prelude.{slice_get}
-use Rattle.std.proofs.lemmas.Bool.{and_parts, not_from_false, cases_lt, cases_eq}
+use Rattle.std.proofs.lemmas.Bool.{and_parts, cases_eq}
 use Rattle.std.proofs.lemmas.Bool.Decides.{nat_tests}
 use Rattle.tag_model.specs.declared.state.Kind.{Kind}
 use Rattle.tag_model.specs.declared.state.Reader.{Reader}
@@ -15,8 +15,7 @@ use Rattle.tag_model.proofs.Lists.{in_range_means}
 use Rattle.tag_model.proofs.ScanRow.{reading_fits}
 use Rattle.module_area.specs.declared.entry.Entry.{Entry}
 use Rattle.module_area.specs.Entries.{entered, entry_of, kept, left as one_left, with_entry, without_entry}
-use Rattle.core_list.specs.ListState.{ListState, found_at, loaded_entry, next_of, record_of, records_of, released, released_at, scanned, scanned_at, section_in, start_in, sum_read}
-use Rattle.core_list.proofs.Split.{book_entry_at}
+use Rattle.core_list.specs.ListState.{found_at, loaded_entry, next_of, records_of, released, released_at, scanned_at, section_in, start_in, sum_read}
 use Rattle.cpu_ops.specs.declared.op.CpuOp.{CpuOp}
 use Rattle.cpu_ops.specs.declared.step.WordStep.{WordStep}
 use Rattle.cpu_ops.specs.declared.step.WordStep.TheVariants.{BeginAllocation, AddBytes, AddCall, SubtractBytes, SubtractCall, Write, GoIn, GoOut}
@@ -25,9 +24,8 @@ use Rattle.module_ops.specs.declared.event.Cause.{Cause}
 use Rattle.module_ops.specs.declared.event.Event.{Event}
 use Rattle.module_ops.specs.declared.event.Event.TheVariants.{Stepped, Released, Kept}
 use Rattle.module_ops.specs.declared.op.ManagerOp.{ManagerOp}
-use Rattle.module_ops.specs.Modules.{Managing, ModuleTable, cause_of, event_of_sweep, goes_in, goes_out, inside_at, kept_by, managed, manager_event, manager_refusal, manager_refusal_in, modules_after, reads_in, reads_next, word_read}
-use Rattle.module_ops.proofs.ReadOn.{ReadsAt, reads_at}
-use Rattle.core_steps.specs.declared.op.Actor.{Actor}
+use Rattle.module_ops.specs.Modules.{Managing, ModuleTable, cause_of, event_of_sweep, goes_in, goes_out, inside_at, kept_by, manager_event, manager_refusal, manager_refusal_in, modules_after, reads_in, reads_next, word_read}
+use Rattle.module_ops.proofs.ReadOn.{reads_at}
 use Rattle.core_steps.specs.declared.op.Actor.TheVariants as actor
 use Rattle.core_steps.specs.CoreState.{CoreState, IsCore, event_of, modules_stepped, refused, stepped}
 use Rattle.core_steps.specs.Release.{IfKept, IsKept, TellsRelease}

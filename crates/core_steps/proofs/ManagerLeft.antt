@@ -7,7 +7,7 @@ use Rattle.core_list.specs.ListState.{ListState, dead_list, loaded, most_steps, 
 use Rattle.core_list.proofs.Ends.{scan_falls, release_falls, begins_of_all, begins_of_one, most_of_all, most_of_one}
 use Rattle.module_ops.specs.declared.op.ManagerOp.{ManagerOp}
 use Rattle.module_ops.specs.Modules.{Managing, ModuleTable, is_nothing, managed, managed_on, manager_refusal, word_read}
-use Rattle.cpu_ops.specs.MayQueue.{section_len}
+use Rattle.tag_section.specs.Section.{tags_in}
 use Rattle.core_steps.specs.CoreState.{CoreState, IsCore}
 use Rattle.core_steps.specs.Kinds.{StepKind}
 use Rattle.core_steps.specs.StepsLeft.{manager_steps_left, most_left, most_of_ops}
@@ -35,7 +35,7 @@ left_behind k op ops list = go (is_nothing (next_of list.sweep))
 left_after : (s : CoreState) → IsCore s → (op : ManagerOp) (ops : List ManagerOp) (kind : Option StepKind) (n : ℕ) (after : ModuleTable) → Manages s.shape s.sections s.words s.modules op ops kind n after
     → manager_steps_left s.shape after < most_left s.shape s.modules.list (op ∷ ops) s.modules.manager.under_way
 left_after s core op ops kind n after (Manages.loads section starts is none) =
-    rw starts (omega (arith, left_at_rest s.shape (loaded section (section_len s.sections section) s.modules.list) ops, one_op_more s.shape op ops))
+    rw starts (omega (arith, left_at_rest s.shape (loaded section (tags_in s.sections section) s.modules.list) ops, one_op_more s.shape op ops))
 left_after s core op ops kind n after (Manages.marks_dead section e starts is unused) =
     let l = s.modules.list in
     let there = (loaded_found section l e core.modules.list is).0 in

@@ -18,7 +18,7 @@ use Rattle.core_list.proofs.Changes.{row-loads, row-marks_dead, row-releases, ro
 use Rattle.cpu_ops.specs.Machine.{Machine}
 use Rattle.module_ops.specs.declared.op.ManagerOp.{ManagerOp}
 use Rattle.module_ops.specs.Modules.{ModuleTable, manager_reads, manager_refusal, word_read}
-use Rattle.cpu_ops.specs.MayQueue.{section_len}
+use Rattle.tag_section.specs.Section.{tags_in}
 use Rattle.core_steps.specs.CoreState.{CoreState, IsCore, cpu_part, cpu_parts, place_parts, state_with, state_after, stepped, word_state, runs_of}
 use Rattle.core_steps.specs.declared.op.Actor.TheVariants as actor
 use Rattle.core_steps.specs.Kinds.{StepKind, begins_as, kind_of, row_kind, scan_of}
@@ -74,8 +74,8 @@ steps_managed : (s : CoreState) → IsCore s → (op : ManagerOp) (ops : List Ma
     → (reads : ℕ) → IsSomeAnd kind (λ some. GoesBy s.shape some after.list.sweep (state_after reads s) (state_after (reads + n) (with_modules s after)))
 steps_managed s core op ops kind n after (Manages.loads section starts is none) reads =
     let l = s.modules.list in
-    let row = row-loads s.shape l reads section (section_len s.sections section) [] core.modules.list (omega (arith, core.modules.first)) (omega (arith, core.modules.tags)) (core.sections.some_tag section is.has_section) none in
-    steps_loads s.shape reads s.machine s.words (runs_of s.modules) l section (section_len s.sections section) (Row.loads row) StepKind.Load (loaded section (section_len s.sections section) l).sweep refl refl
+    let row = row-loads s.shape l reads section (tags_in s.sections section) [] core.modules.list (omega (arith, core.modules.first)) (omega (arith, core.modules.tags)) (core.sections.some_tag section is.has_section) none in
+    steps_loads s.shape reads s.machine s.words (runs_of s.modules) l section (tags_in s.sections section) (Row.loads row) StepKind.Load (loaded section (tags_in s.sections section) l).sweep refl refl
 steps_managed s core op ops kind n after (Manages.marks_dead section e starts is unused) reads =
     let l = s.modules.list in
     let found = loaded_found section l e core.modules.list is in

@@ -17,7 +17,7 @@ use Rattle.core_list.specs.ListState.{records_of, next_of, found_at, section_in,
 use Rattle.core_list.proofs.Split.{TheEntry, the_entry, entry_holds}
 use Rattle.module_ops.specs.declared.event.Cause.{Cause}
 use Rattle.module_ops.specs.declared.event.Event.TheVariants.{Stepped}
-use Rattle.cpu_ops.specs.MayQueue.{section_len}
+use Rattle.tag_section.specs.Section.{tags_in}
 use Rattle.module_ops.specs.Modules.{manager_refusal, manager_event, event_of_sweep, kept_by, cause_of, word_read}
 use Rattle.core_steps.specs.CoreState.{CoreState, IsCore, EntryFits}
 use Rattle.cpu_ops.specs.MayQueue.{IsModule}
@@ -44,7 +44,7 @@ stop_told s left r by sum core fits = go (not (nat_lt (r.cpu + 1) s.shape.cpus) 
         let one = read_entry s left r core fits in
         let e = entry_holds (EntryFits s.sections) s.modules.list.area.entries r.id one.entry core.modules.entries one.is in
         let range = in_range_means one.entry.start one.entry.length r.tag one.passes in
-        subst (λ (o : Option Entry). IsModule s.sections (section_in o) × (r.tag - start_in o < section_len s.sections (section_in o))) (sym one.is)
+        subst (λ (o : Option Entry). IsModule s.sections (section_in o) × (r.tag - start_in o < tags_in s.sections (section_in o))) (sym one.is)
         (e.of_module, omega (arith, range.0, range.1, e.all_tags))
 
 -- a step of a sweep

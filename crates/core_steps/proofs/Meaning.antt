@@ -1,5 +1,5 @@
 -- The core that a machine and its moves give steps as the machine and its moves do.
-use Rattle.std.proofs.Common.{◌≡◌, ℕ, ◌+◌, ◌*◌, ◌/◌, ◌<◌, List, [], ◌∷◌, ◌++◌, length, get_or, set, replicate, refl, sym, ap, ◌∙◌, subst, arith, Option, Some, None, append-nil, Result, Ok, Err, OnOk, inl, inr}
+use Rattle.std.proofs.Common.{◌≡◌, ℕ, ◌+◌, ◌*◌, ◌/◌, ◌<◌, List, [], ◌∷◌, ◌++◌, length, get_or, set, replicate, refl, sym, ap, ◌∙◌, subst, arith, Option, Some, None, append-nil, inl, inr}
 use Rattle.std.proofs.lemmas.List.{set-get_or, same_lists, length-replicate, get_or-replicate}
 use Rattle.std.proofs.lemmas.List.FromFn.{length-map-range_with_len, get_or-map-range_with_len}
 use Rattle.tag_model.specs.declared.shape.Shape.{Shape}
@@ -24,9 +24,6 @@ use Rattle.core_steps.specs.Moved.{kind_at, own_moved, words_moved, core_of, Has
 use Rattle.core_steps.proofs.MovedWords.{moved_one}
 use Rattle.core_steps.proofs.Kept.{can_go, nothing_past}
 use Rattle.std.proofs.lemmas.Bool.{cases_lt}
-use Rattle.module_ops.specs.declared.event.Event.{Event}
-use Rattle.module_ops.specs.declared.event.Event.TheVariants.{Stepped}
-use Rattle.cpu_ops.specs.declared.refused.StepRefused.{StepRefused}
 
 own_at : (cpus tags : ℕ) (moves : List Move) (cpu : ℕ) → cpu < cpus → get_or (words_moved cpus tags moves) cpu [] ≡ own_moved tags moves cpu
 unfolding words_moved

@@ -13,10 +13,7 @@ use Rattle.tag_model.specs.Laws.{same_kind}
 use Rattle.tag_model.specs.Moves.{Move, is_on, moved_word}
 use Rattle.tag_model.specs.WordState.{word_place}
 use Rattle.core_steps.specs.Moved.{kind_at, own_moved, words_moved}
-
--- one move more on a word
-pub wraps : (up down more less : ℕ) → wrap_minus (up + more) (down + less) ≡ wrap_minus (wrap_minus up down + more) less
-wraps up down more less = omega arith
+use Rattle.tag_model.proofs.MovedWords.{joined as wraps}
 
 -- and on another word
 pub moved_word_here : (moves : List Move) (m : Move) (cpu : ℕ) (kind : Kind) (tag : ℕ) → is_on cpu kind tag m ≡ true → moved_word (moves ++ m ∷ []) cpu kind tag ≡ wrap_minus (moved_word moves cpu kind tag + m.up) m.down

@@ -1,16 +1,14 @@
 -- What a step leaves to the other actors, and what holds where no actor has an op.
-use Rattle.std.proofs.Common.{◌≡◌, ◌≢◌, ℕ, ◌+◌, ◌<◌, ◌==◌, nat_lt, List, [], ◌∷◌, refl, sym, ap, ◌∙◌, subst, arith, Option, Some, None, Bool, true, false}
+use Rattle.std.proofs.Common.{◌≡◌, ◌≢◌, ℕ, ◌<◌, List, [], ◌∷◌, refl, ap, subst, Option, Some, None, Bool, true, false}
 use Rattle.std.proofs.lemmas.List.{get_or-set_other}
-use Rattle.tag_model.specs.declared.state.Hand.{Hand}
-use Rattle.tag_model.specs.declared.state.Held.{Held}
 use Rattle.tag_model.specs.declared.state.Run.{Run}
 use Rattle.module_area.specs.declared.entry.Entry.{Entry}
 use Rattle.core_list.specs.ListState.{loaded_entry}
 use Rattle.cpu_ops.specs.declared.op.CpuOp.{CpuOp}
 use Rattle.cpu_ops.specs.declared.step.WordStep.{WordStep}
 use Rattle.cpu_ops.specs.declared.step.WordStep.TheVariants.{BeginAllocation, AddBytes, AddCall, SubtractBytes, SubtractCall, Write, GoIn, GoOut}
-use Rattle.cpu_ops.specs.Machine.{Machine, Waiting, advanced, hand_at, nothing_waits, refusal_in, run_at, step_of, stepped_by, waiting_at}
-use Rattle.module_ops.specs.Modules.{Managing, ModuleTable, goes_in, goes_out, inside_at, modules_after, scene_at}
+use Rattle.cpu_ops.specs.Machine.{Machine, advanced, hand_at, nothing_waits, run_at, step_of, stepped_by, waiting_at}
+use Rattle.module_ops.specs.Modules.{ModuleTable, goes_in, goes_out, inside_at, modules_after, scene_at}
 use Rattle.core_steps.specs.declared.op.Actor.{Actor}
 use Rattle.core_steps.specs.declared.op.Actor.TheVariants as actor
 use Rattle.core_steps.specs.CoreState.{CoreState, IsCore, IsReady, modules_stepped, refused, stepped}

@@ -1,6 +1,6 @@
 -- A sweep that reads on takes steps of the manager, as many as it reads words.
-use Rattle.std.proofs.Common.{◌≡◌, ℕ, zero, suc, ◌+◌, ◌<◌, ◌≤◌, refl, arith, None}
-use Rattle.module_ops.specs.Modules.{ModuleTable, TellNothing, managed_times}
+use Rattle.std.proofs.Common.{◌≡◌, ℕ, zero, suc, ◌+◌, ◌<◌, ◌≤◌, refl, arith}
+use Rattle.module_ops.specs.Modules.{TellNothing, managed_times}
 use Rattle.core_steps.specs.declared.op.Actor.TheVariants as actor
 use Rattle.core_steps.specs.CoreState.{CoreState, IsCore, stepped}
 use Rattle.core_steps.specs.ReadOn.{TellsNothing, after_manager}

@@ -11,12 +11,12 @@ use Rattle.tag_model.specs.declared.state.Held.TheVariants as held
 use Rattle.cpu_ops.specs.declared.op.CpuOp.{CpuOp}
 use Rattle.cpu_ops.specs.declared.op.CpuOp.TheVariants.{Open, Close, Split, Swap, Trim, Enter, Leave}
 use Rattle.cpu_ops.specs.declared.op.TheConstants.{KEY_END}
-use Rattle.cpu_ops.specs.Machine.{Waiting, Scene, reserves, names_key, held_at, tag_in, is_outside, is_used, open_refusal, part_key, is_new_key, clear_step, with_call, step_of, hand_after, places_after, advanced, first_refusal, is_reserved, is_live, is_counted, size_of, in_hand, put_down, bytes_in, with_bytes}
+use Rattle.cpu_ops.specs.Machine.{Waiting, Scene, reserves, names_key, held_at, tag_in, is_outside, is_used, open_refusal, part_key, is_new_key, clear_step, with_call, step_of, hand_after, places_after, advanced, first_refusal, is_reserved, is_live, size_of, in_hand, put_down, bytes_in, with_bytes}
+use Rattle.tag_model.specs.Reference.{is_counted}
 use Rattle.core_steps.specs.CoreState.{IsReady, IsWaiting, IsOpening, HoldsOpening, runs_in, IsClosing, IsSplitting, IsSwapping, IsTrimming, IsUnderWay, HoldsParts}
 use Rattle.cpu_ops.specs.MayQueue.{IsOp, IsOpen, IsKey, IsSplit, IsSwap, IsTrim}
-use Rattle.cpu_ops.specs.MayQueue.{section_len}
 use Rattle.cpu_ops.specs.declared.refused.StepRefused.{StepRefused}
-use Rattle.tag_section.specs.Section.{Section}
+use Rattle.tag_section.specs.Section.{Section, tags_in}
 use Rattle.tag_model.specs.StepRules.{may_begin}
 use Rattle.tag_model.specs.declared.state.Run.{Run}
 use Rattle.core_steps.proofs.Takes.{IsRuled, CanWrite, PlacesFit}
@@ -477,7 +477,7 @@ module _ (k : Shape) (sections : List Section) (inside : List (Option Run)) (pla
 
   -- the next step of a CPU that is ready and isn't refused
   pub next : (waiting : List Waiting) (scene : Scene) (op : CpuOp) (done : ℕ) → scene.inside ≡ inside → IsUnderWay places hand op done → IsOp sections op → (done ≡ 0 → first_refusal places waiting scene op ≡ None)
-      → ((section index : ℕ) → section < length sections → index < section_len sections section → is_outside section inside ≡ false → MayBegin k inside section index)
+      → ((section index : ℕ) → section < length sections → index < tags_in sections section → is_outside section inside ≡ false → MayBegin k inside section index)
       → Next k sections inside places hand op ops done
   next waiting scene (Open key section index size) done same under is free begin = next_open key section index size done is under
       (λ e. (free_place places waiting scene.inside key section (free e), begin section index is.has_section is.in_section (rw (← same) (running_first places waiting scene.inside key section (free e)))))

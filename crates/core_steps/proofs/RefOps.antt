@@ -18,11 +18,11 @@ use Rattle.cpu_ops.specs.declared.op.CpuOp.TheVariants.{Open, Close, Split, Swap
 use Rattle.cpu_ops.specs.declared.op.TheConstants.{KEY_END}
 use Rattle.cpu_ops.specs.declared.step.WordStep.{WordStep}
 use Rattle.cpu_ops.specs.declared.step.WordStep.TheVariants.{AddCall, Write}
-use Rattle.cpu_ops.specs.Machine.{clear_step, first_refusal, hand_after, hand_at, held_at, in_hand, is_counted, is_new_key, is_used, less_bytes, new_keys, part_key, places_after, put_down, size_of, step_count, step_of, tag_in, with_bytes, with_call}
+use Rattle.cpu_ops.specs.Machine.{clear_step, first_refusal, hand_after, hand_at, held_at, in_hand, is_new_key, is_used, less_bytes, new_keys, part_key, places_after, put_down, size_of, step_count, step_of, tag_in, with_bytes, with_call}
+use Rattle.tag_model.specs.Reference.{is_counted}
 use Rattle.cpu_ops.specs.MayQueue.{IsOp, IsSplit}
 use Rattle.cpu_ops.specs.declared.refused.StepRefused.{StepRefused}
 use Rattle.module_ops.specs.Modules.{inside_at, scene_at}
-use Rattle.core_steps.specs.declared.op.Actor.TheVariants as actor
 use Rattle.core_steps.specs.CoreState.{CoreState, HoldsParts, IsCore, place_parts, settled_hand, word_state}
 use Rattle.core_steps.specs.Laws.{Begins, after_steps}
 use Rattle.core_steps.specs.RefOps.{MayDoIf, done_if, ref_op}

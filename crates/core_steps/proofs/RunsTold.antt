@@ -25,7 +25,7 @@ use Rattle.module_area.specs.declared.entry.Entry.{Entry}
 use Rattle.module_area.specs.declared.entry.State.{State}
 use Rattle.module_area.specs.declared.entry.State.TheVariants.{Loaded, Dead}
 use Rattle.module_area.specs.Area.{Area, IsBook}
-use Rattle.module_area.specs.Entries.{entry_of, is_loaded_at, is_loaded_as as is_loaded_section}
+use Rattle.module_area.specs.Entries.{entry_of, is_loaded_as as is_loaded_section}
 use Rattle.module_area.proofs.EntryLemmas.{find_some}
 use Rattle.core_list.specs.ListState.{ListState, is_dead, list_part, loaded_entry, record_of, records_of, run_of}
 use Rattle.core_list.proofs.Refused.{state_means}

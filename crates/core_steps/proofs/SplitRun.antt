@@ -13,7 +13,7 @@ use Rattle.tag_model.specs.declared.state.Kind.{Kind}
 use Rattle.tag_model.specs.declared.state.Kind.TheVariants.{Bytes, Calls}
 use Rattle.tag_model.specs.Moves.{Move}
 use Rattle.tag_model.specs.Laws.{live_of}
-use Rattle.tag_model.specs.Reference.{amount, hand_counts, held_counts, live_total}
+use Rattle.tag_model.specs.Reference.{amount, hand_counts, held_counts, live_total, is_counted}
 use Rattle.tag_model.proofs.PlaceRow.{counts_stay}
 use Rattle.cpu_ops.specs.declared.op.CpuOp.{CpuOp}
 use Rattle.cpu_ops.specs.declared.op.CpuOp.TheVariants.{Open, Close, Split, Swap, Trim, Enter, Leave}
@@ -23,7 +23,7 @@ use Rattle.module_ops.specs.Modules.{inside_at, scene_at}
 use Rattle.core_steps.specs.declared.op.Actor.TheVariants as actor
 use Rattle.cpu_ops.specs.declared.step.WordStep.{WordStep}
 use Rattle.cpu_ops.specs.declared.step.WordStep.TheVariants.{AddCall, Write}
-use Rattle.cpu_ops.specs.Machine.{Waiting, Machine, waiting_at, hand_at, held_at, in_hand, is_counted, part_key, clear_step, step_of, hand_after, places_after, with_call, moves_in, moves_of, moves_of_step}
+use Rattle.cpu_ops.specs.Machine.{Waiting, Machine, waiting_at, hand_at, held_at, in_hand, part_key, clear_step, step_of, hand_after, places_after, with_call, moves_in, moves_of, moves_of_step}
 use Rattle.core_steps.specs.CoreState.{CoreState, IsCore, IsReady, runs_in, settled_hand, stepped, word_state}
 use Rattle.core_steps.specs.Laws.{Begins, waits_for, after_steps, moves_of_run, call_move}
 use Rattle.core_steps.proofs.Takes.{IsRuled}

@@ -11,13 +11,13 @@ use Rattle.tag_model.specs.declared.state.Held.TheVariants as held
 use Rattle.tag_model.specs.declared.state.Kind.{Kind}
 use Rattle.tag_model.specs.declared.state.Kind.TheVariants.{Bytes, Calls}
 use Rattle.tag_model.specs.declared.limits.TheConstants.{SIZE_END, MAX_HAND_CALLS}
-use Rattle.tag_model.specs.Reference.{amount, same_tag, hand_counts_of, held_counts_of, held_fits, hand_fits, is_settled}
+use Rattle.tag_model.specs.Reference.{amount, same_tag, hand_counts_of, held_counts_of, held_fits, hand_fits, is_settled, is_counted}
 use Rattle.tag_model.proofs.CpuFits.{hand_fits_from}
 use Rattle.cpu_ops.specs.declared.op.CpuOp.TheVariants.{Split}
 use Rattle.cpu_ops.specs.declared.refused.StepRefused.{StepRefused}
 use Rattle.cpu_ops.specs.declared.op.TheConstants.{KEY_END}
 use Rattle.cpu_ops.specs.declared.step.WordStep.TheVariants.{Write}
-use Rattle.cpu_ops.specs.Machine.{Waiting, in_hand, bytes_in, size_of, is_counted, is_used, is_live, is_reserved, holds_nothing, held_at, part_key, is_new_key, unless_used, names_key, share_step, split_refusal}
+use Rattle.cpu_ops.specs.Machine.{Waiting, in_hand, bytes_in, size_of, is_used, is_live, is_reserved, holds_nothing, held_at, part_key, is_new_key, unless_used, names_key, share_step, split_refusal}
 use Rattle.core_steps.specs.CoreState.{HoldsParts, settled_hand}
 use Rattle.cpu_ops.specs.MayQueue.{IsSplit}
 use Rattle.core_steps.proofs.Takes.{CanWrite}

@@ -1,5 +1,5 @@
 -- The law of stops, of runs of a core: a range is kept only where something of that kind was counted under its tag as the pass began.
-use Rattle.std.proofs.Common.{◌≡◌, ℕ, ◌+◌, ◌<◌, ◌==◌, ◌&&◌, nat_lt, not, List, [], ◌∷◌, ◌++◌, refl, sym, ap, ◌∙◌, subst, arith, Bool, true, false, cond, Option, Some, None, IsSomeAnd, sum_by, count_by, le-ltb, ne_eqb, eq-eqb}
+use Rattle.std.proofs.Common.{◌≡◌, ℕ, ◌+◌, ◌<◌, ◌==◌, ◌&&◌, nat_lt, List, [], ◌∷◌, ◌++◌, refl, sym, ap, ◌∙◌, subst, arith, Bool, true, false, cond, Option, Some, None, IsSomeAnd, sum_by, count_by, le-ltb, ne_eqb, eq-eqb}
 use Rattle.std.proofs.lemmas.Bool.{and_from}
 use Rattle.std.proofs.lemmas.List.Sums.{sum_by-append, sum_by-cons}
 use Rattle.tag_model.specs.declared.shape.Shape.{Shape}
@@ -31,6 +31,7 @@ use Rattle.core_steps.proofs.ManagerKept.{told_kept}
 use Rattle.core_steps.proofs.Parts.{sum_both, sum_two}
 use Rattle.core_steps.proofs.Runs.{run_shape, stepped_shape}
 use Rattle.core_steps.proofs.Stepping.{goes_by_kind, steps_core}
+use Rattle.tag_model.proofs.ListRows.{same_kind_refl}
 
 -- ---- steps as a history
 
@@ -152,10 +153,6 @@ one_more : (p : Stop → Bool) (stops : List Stop) (stop : Stop) → p stop ≡ 
 one_more p stops stop holds =
     let here : cond {A = ℕ} (p stop) 1 0 ≡ 1 = rw holds refl in
     omega (arith, sum_by-append (λ (y : Stop). cond (p y) 1 0) stops (stop ∷ []), sum_by-cons (λ (y : Stop). cond (p y) 1 0) stop [])
-
-same_kind_refl : (kind : Kind) → same_kind kind kind ≡ true
-same_kind_refl Bytes = refl
-same_kind_refl Calls = refl
 
 -- ---- the read of a kept range
 

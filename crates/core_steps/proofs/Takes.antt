@@ -186,16 +186,6 @@ module _ (k : Shape) (words places : ℕ) (own : words ≡ 2 * k.tags) (runs : L
 
 -- ---- what a step keeps
 
-pub length-places_after : (step : WordStep) (places : List Held) → length (places_after step places) ≡ length places
-length-places_after (BeginAllocation tag) places = refl
-length-places_after (AddBytes size) places = refl
-length-places_after AddCall places = refl
-length-places_after (SubtractBytes bytes) places = refl
-length-places_after SubtractCall places = refl
-length-places_after (Write key will next) places = length-set places key will
-length-places_after (GoIn section) places = refl
-length-places_after (GoOut section) places = refl
-
 length-raised : (hand : Option Hand) (kind : Kind) (n : ℕ) (words : List ℕ) → length (raised_in_hand hand kind n words) ≡ length words
 length-raised None kind n words = refl
 length-raised (Some h) kind n words = length-set words _ _

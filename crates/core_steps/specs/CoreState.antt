@@ -1,6 +1,6 @@
 -- The machine with its words, the word state that it stands for, and what holds of it.
 use Rattle.std.specs.List.{AllByRecursion}
-use Rattle.std.specs.Prelude.{◌≡◌, ℕ, All, map, IsSomeAnd, ◌+◌, ◌-◌, ◌*◌, ◌<◌, ◌≤◌, ◌≢◌, true, false, IsTrue, Option, Some, None, List, [], ◌∷◌, ◌++◌, length, slice_index_or, slice_set, replicate, sum_by, slice_index, fold}
+use Rattle.std.specs.Prelude.{◌≡◌, ℕ, All, map, IsSomeAnd, ◌+◌, ◌-◌, ◌*◌, ◌<◌, ◌≤◌, ◌≢◌, true, false, IsTrue, Option, Some, None, List, [], ◌∷◌, ◌++◌, length, slice_set, replicate, sum_by, slice_index, fold}
 use Rattle.tag_model.specs.declared.shape.Shape.{Shape}
 use Rattle.tag_model.specs.declared.state.Tag.{Tag}
 use Rattle.tag_model.specs.declared.state.Hand.{Hand}
@@ -28,12 +28,13 @@ use Rattle.core_steps.specs.declared.op.Actor.{Actor}
 use Rattle.core_steps.specs.declared.op.Actor.TheVariants as actor
 use Rattle.cpu_ops.specs.declared.refused.StepRefused.{StepRefused}
 use Rattle.cpu_ops.specs.declared.op.TheConstants.{KEY_END}
-use Rattle.cpu_ops.specs.Machine.{Waiting, Machine, nothing_waits, fresh_machine, hand_at, held_at, waiting_at, run_at, reserves, is_counted, bytes_in, refusal_of, after_step, words_after, step_of, part_key, queued_on}
-use Rattle.cpu_ops.specs.MayQueue.{IsOp, IsModule, section_len}
+use Rattle.cpu_ops.specs.Machine.{Machine, fresh_machine, hand_at, held_at, waiting_at, run_at, reserves, bytes_in, refusal_of, after_step, words_after, step_of, part_key, queued_on}
+use Rattle.tag_model.specs.Reference.{is_counted}
+use Rattle.cpu_ops.specs.MayQueue.{IsOp, IsModule}
 use Rattle.module_ops.specs.Modules.{ModuleTable, inside_at, scene_at, manager_reads, modules_after, manager_refusal, managed, manager_event, is_nothing, word_in, words_at, with_managed, fresh_modules, IsManagerOp}
 use Rattle.core_list.specs.ListState.{ListState, IsList, list_part, next_of}
 use Rattle.module_area.specs.declared.entry.Entry.{Entry}
-use Rattle.tag_section.specs.Section.{Section}
+use Rattle.tag_section.specs.Section.{Section, tags_in}
 
 pub record CoreState : Type 0 where
   pub shape : Shape
@@ -296,13 +297,13 @@ pub record IsMachine (cpus : ℕ) (sections : List Section) (m : Machine) : Type
 pub record RunFits (k : Shape) (sections : List Section) (section : ℕ) (r : Run) : Type 0 where
   pub some_id : 0 < r.id
   pub of_section : r.section ≡ section
-  pub all_tags : r.length ≡ section_len sections section
+  pub all_tags : r.length ≡ tags_in sections section
   pub in_shape : r.start + r.length ≤ k.tags
 
 -- an entry is of a module's section, and has the section's tags
 pub record EntryFits (sections : List Section) (e : Entry) : Type 0 where
   pub of_module : IsModule sections e.section
-  pub all_tags : e.length ≡ section_len sections e.section
+  pub all_tags : e.length ≡ tags_in sections e.section
 
 pub record AreModules (k : Shape) (sections : List Section) (ms : ModuleTable) : Type 0 where
   pub cpus : length ms.inside ≡ k.cpus
@@ -322,8 +323,8 @@ pub record AreModules (k : Shape) (sections : List Section) (ms : ModuleTable) :
 -- there is the kernel's section, which fits, and each section has a tag
 pub record SectionsFitShape (k : Shape) (sections : List Section) : Type 0 where
   pub kernel : 0 < length sections
-  pub kernel_fits : section_len sections 0 ≤ k.kernel_tags
-  pub some_tag : (section : ℕ) → section < length sections → 1 ≤ section_len sections section
+  pub kernel_fits : tags_in sections 0 ≤ k.kernel_tags
+  pub some_tag : (section : ℕ) → section < length sections → 1 ≤ tags_in sections section
 
 pub record IsCore (s : CoreState) : Type 0 where
   pub shape : IsChecked s.shape

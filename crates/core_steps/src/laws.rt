@@ -13,17 +13,19 @@ ghost use Rattle.cpu_ops.specs.declared.op.CpuOp.{CpuOp};
 ghost use Rattle.cpu_ops.specs.declared.op.CpuOp.TheVariants.{Open, Close, Split, Swap, Trim, Enter, Leave};
 ghost use Rattle.module_ops.specs.declared.op.ManagerOp.{ManagerOp};
 ghost use Rattle.module_ops.specs.declared.op.ManagerOp.TheVariants.{Load};
+ghost use Rattle.module_area.specs.Entries.{entry_of};
 ghost use Rattle.module_area.specs.declared.entry.Entry.{Entry};
-ghost use Rattle.tag_model.specs.StepRules.{dead_ids};
-ghost use Rattle.core_list.specs.ListState.{loaded_entry, next_of, records_of, sweep_steps, tags_of};
+ghost use Rattle.core_list.specs.ListState.{next_of};
 ghost use Rattle.core_list.specs.declared.list.Next.TheVariants.{Nothing};
 ghost use Rattle.module_ops.specs.Modules.{inside_at};
+ghost use Rattle.module_ops.specs.declared.event.Cause.{Cause};
+ghost use Rattle.module_ops.specs.declared.event.Event.TheVariants.{Released};
 ghost use Rattle.core_steps.specs.declared.op.Actor.TheVariants as actor;
 ghost use Rattle.cpu_ops.specs.Machine.{hand_at, held_at, waiting_at, step_count, moves_of_step};
 ghost use Rattle.core_steps.specs.CoreState.{CoreState, IsCore, refused, stepped, word_state, total_of};
 ghost use Rattle.core_steps.specs.declared.op.Actor.{Actor};
 ghost use Rattle.core_steps.specs.RefOps.{MayDoIf, done_if, ref_op};
-ghost use Rattle.core_steps.specs.Release.{IsReleasable, NothingNames};
+ghost use Rattle.core_steps.specs.Release.{IfReleases};
 ghost use Rattle.module_area.specs.declared.entry.State.TheVariants.{Dead};
 ghost use Rattle.core_steps.specs.StepsLeft.{steps_left};
 ghost use Rattle.tag_model.specs.ListMachine.{in_order};
@@ -94,11 +96,10 @@ pub fn ops_are_those_of_the_list_machine()
     ensures done { (s : CoreState) (cpu : ℕ) (op : CpuOp) (ops : List CpuOp) → IsCore s → Begins s cpu op ops → live_of (word_state (after_steps s cpu (step_count op))) ≡ done_if (ref_op (inside_at s.modules cpu) op) (live_of (word_state s)) }
 {}
 
-/// What a release finds, in plain words: the module is dead, and each reference and each hand is of another module and of a
-/// tag outside its range.
+/// What a step that tells a release found, in plain words: the section's module is dead, and each reference and each hand
+/// is of another module and of a tag outside its range.
 pub fn a_release_finds_nothing_in_a_core()
-    ensures dead { (s : CoreState) (section : ℕ) (r : IsReleasable s section) → r.entry.state ≡ Dead }
-    ensures free { (s : CoreState) (section : ℕ) (r : IsReleasable s section) → NothingNames s r.entry }
-    ensures places { (s : CoreState) (e : Entry) (key size : ℕ) (tag : Tag) → NothingNames s e → held_at s.machine.places key ≡ held.Counted tag size → (tag.module ≢ e.id) × (e.start ≤ tag.number → ¬ (tag.number < e.start + e.length)) }
-    ensures hands { (s : CoreState) (e : Entry) (cpu : ℕ) (hand : Hand) → NothingNames s e → hand_at s.machine cpu ≡ Some hand → (hand.tag.module ≢ e.id) × (e.start ≤ hand.tag.number → ¬ (hand.tag.number < e.start + e.length)) }
+    ensures { (s : CoreState) (section : ℕ) (cause : Cause) → IfReleases s (Released section cause) → (e : Entry) × (e.section ≡ section) × (entry_of s.modules.list.area.entries e.id ≡ Some e) × (e.state ≡ Dead)
+        × ((key size : ℕ) (tag : Tag) → held_at s.machine.places key ≡ held.Counted tag size → (tag.module ≢ e.id) × (e.start ≤ tag.number → ¬ (tag.number < e.start + e.length)))
+        × ((cpu : ℕ) (hand : Hand) → hand_at s.machine cpu ≡ Some hand → (hand.tag.module ≢ e.id) × (e.start ≤ hand.tag.number → ¬ (hand.tag.number < e.start + e.length))) }
 {}

@@ -111,19 +111,7 @@ impl Core {
         ensures err { OnErr result (self.new ≡ self.old) }
         ensures safe { Safe self.new.shape (word_state self.new) }
     {
-        let told = self.put(actor, op);
-        self.tell();
-        told
-    }
-
-    fn put(&mut self, actor: Actor, op: Op) -> Result<(), QueueError>
-        requires actor { IsActor self.old actor }
-        requires op { IsOpOf self.old.sections actor op }
-        ensures ok { OnOk result (self.new ≡ queued self.old actor op) }
-        ensures full { (result ≡ Err QueueError.QueueFull) ↔ (MAX_QUEUED ≤ length (ops_of self.old actor)) }
-        ensures err { OnErr result (self.new ≡ self.old) }
-    {
-        match actor {
+        let told = match actor {
             Actor::Cpu(cpu) => match op.of_cpu() {
                 Some(op) => self.queue_on(cpu, op),
                 None => Ok(()),
@@ -132,7 +120,9 @@ impl Core {
                 Some(op) => self.queue_for_manager(op),
                 None => Ok(()),
             },
-        }
+        };
+        self.tell();
+        told
     }
 
     fn queue_on(&mut self, cpu: u32, op: CpuOp) -> Result<(), QueueError>
@@ -176,29 +166,13 @@ impl Core {
         // Words stay the sums of the moves.
         ensures moved { (moves : List Move) → HasMoved self.old moves → OnOk result (self.new ≡ moved_on self.old actor moves) }
     {
-        let told = self.step(actor);
         self.tell();
-        told
-    }
-
-    fn step(&mut self, actor: Actor) -> Result<Event, StepRefused>
-        ensures answer { MatchOption (refused self.old actor) (result ≡ Ok (event_of self.old actor)) (λ r. result ≡ Err r) }
-        ensures ok { OnOk result (self.new ≡ stepped self.old actor) }
-        ensures err { OnErr result (self.new ≡ self.old) }
-        ensures row { (reads : ℕ) → OnOk result (StepsWith self.old.shape (state_after reads self.old) (state_after (reads + reads_of self.old actor) self.new)) }
-        ensures left { OnOk result (steps_left self.new actor < steps_left self.old actor) }
-        ensures released { IfOk result (IfReleases self.old) }
-        ensures gone { (id : ℕ) (e : Entry) → entry_of self.old.modules.list.area.entries id ≡ Some e → entry_of self.new.modules.list.area.entries id ≡ None → IsOkAnd result (TellsRelease e.section) }
-        ensures kept { IfOk result (IfKept self.old) }
-        ensures keeps { (section index : ℕ) (kind : Kind) (sum : ℕ) → actor ≡ Actor.Manager → IsKept self.old section index kind sum → result ≡ Ok (Event.Kept section index kind sum (cause_of self.old.modules.manager.ops)) }
-        ensures told { IfOk result (EventFits self.old.sections) }
-        ensures moved { (moves : List Move) → HasMoved self.old moves → OnOk result (self.new ≡ moved_on self.old actor moves) }
-    {
-        self.tell();
-        match actor {
+        let told = match actor {
             Actor::Cpu(cpu) => self.go_cpu(cpu),
             Actor::Manager => self.go_manager(),
-        }
+        };
+        self.tell();
+        told
     }
 
     /// The sweep of the manager reads on in its tag: so many words at most, and not that of the last CPU. The answer is
@@ -210,20 +184,12 @@ impl Core {
         ensures left { steps_left self.new Actor.Manager + result ≤ steps_left self.old Actor.Manager }
         ensures safe { Safe self.new.shape (word_state self.new) }
     {
-        let count = self.read_words(most);
+        self.tell();
+        let count = self
+            .modules
+            .read_on(self.shape, self.words.as_slice(), most);
         self.tell();
         count
-    }
-
-    fn read_words(&mut self, most: u32) -> u32
-        ensures count { result ≡ min most (words_ahead self.old.shape self.old.modules) }
-        ensures state { self.new ≡ after_manager self.old result }
-        ensures quiet { TellsNothing result self.old }
-        ensures left { steps_left self.new Actor.Manager + result ≤ steps_left self.old Actor.Manager }
-    {
-        self.tell();
-        self.modules
-            .read_on(self.shape, self.words.as_slice(), most)
     }
 
     fn go_cpu(&mut self, cpu: u32) -> Result<Event, StepRefused>

@@ -3,7 +3,7 @@
 ghost use Rattle.std.specs.Prelude.{◌≡◌, ◌<◌, ◌≤◌, ◌&&◌, ℕ, nat_lt, length, IsTrue, IfOk};
 ghost use Rattle.core_steps.specs.CoreState.{IsOpOf};
 ghost use Rattle.cpu_ops.specs.MayQueue.{IsModule, IsSplit};
-ghost use Rattle.cpu_ops.specs.MayQueue.{section_len};
+ghost use Rattle.tag_section.specs.Section.{tags_in};
 
 use crate::machine::Core;
 use crate::op::{Actor, Cause, Event, KEY_END, MAX_PARTS, Op, QueueError, StepRefused};
@@ -194,8 +194,8 @@ fn program(alloc: Global) -> Result<Sections, Fail> {
 
 fn assert_tags(rt: &impl Abort, sections: &Sections)
     ensures kernel { 0 < length sections.now }
-    ensures kernel_fits { section_len sections.now 0 ≤ KERNEL_TAGS }
-    ensures some_tag { (section : ℕ) → section < length sections.now → 1 ≤ section_len sections.now section }
+    ensures kernel_fits { tags_in sections.now 0 ≤ KERNEL_TAGS }
+    ensures some_tag { (section : ℕ) → section < length sections.now → 1 ≤ tags_in sections.now section }
 {
     assert!(rt; 0 < sections.count());
     assert!(rt; sections.len_of(0) <= KERNEL_TAGS);

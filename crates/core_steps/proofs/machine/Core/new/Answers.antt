@@ -1,7 +1,5 @@
-use Rattle.std.proofs.Common.{◌≡◌, refl, ap, ◌∙◌, sym, subst}
-use Rattle.tag_model.specs.Laws.{Safe}
+use Rattle.std.proofs.Common.{refl, ap, ◌∙◌}
 use Rattle.module_ops.specs.Modules.{fresh_modules}
-use Rattle.core_steps.specs.CoreState.{CoreState, word_state, fresh}
 use Rattle.core_steps.proofs.Fresh.{core_fresh}
 use Rattle.core_steps.proofs.Meaning.{core_of_fresh}
 use Rattle.core_steps.proofs.machine.Core.new.Goals as goal

@@ -2,7 +2,7 @@ use Rattle.std.proofs.Common.{◌≡◌, ◌∙◌, ap, subst}
 use Rattle.tag_model.specs.declared.state.Kind.TheVariants.{Bytes, Calls}
 use Rattle.tag_model.specs.Laws.{live_of}
 use Rattle.tag_model.specs.Reference.{live_total}
-use Rattle.core_steps.specs.CoreState.{CoreState, IsCore, total_of, word_state}
+use Rattle.core_steps.specs.CoreState.{CoreState, total_of, word_state}
 use Rattle.core_steps.specs.Laws.{IsIdle}
 use Rattle.core_steps.proofs.Others.{idle_hand}
 use Rattle.core_steps.proofs.Quiet.{quiet_exact}
