@@ -2,7 +2,8 @@
 use Rattle.std.proofs.Common.{◌≡◌, ℕ, ◌+◌, Option, None, Some, Result, Ok, Err, OnOk, OnErr, MatchOption, ap, ◌∙◌}
 use Rattle.module_area.specs.declared.book.AreaError.{AreaError}
 use Rattle.tag_rule.specs.Shown.{PassShown}
-use Rattle.reclaim.specs.Loading.{LoadEnds, early_refusal, late_refusal, loaded_as, tags_in}
+use Rattle.reclaim.specs.Loading.{LoadEnds, early_refusal, late_refusal, loaded_as}
+use Rattle.tag_section.specs.Section.{tags_in}
 use Rattle.reclaim.specs.State.{LockedShown}
 use Rattle.reclaim.proofs.Load.{prepared_board}
 

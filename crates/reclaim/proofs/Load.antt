@@ -16,18 +16,13 @@ use Rattle.core_list.specs.ListState.{record_of}
 use Rattle.std.specs.Option.{is_some}
 use Rattle.module_area.specs.declared.book.AreaError.{AreaError}
 use Rattle.module_area.specs.declared.book.AreaError.TheVariants.{BookFull, NoRoom, NoSection, SameName}
-use Rattle.module_area.proofs.StartLemmas.{free_from_none}
-use Rattle.core_list.proofs.Kept.{find_unmet}
-use Rattle.core_list.proofs.Refused.{Says, least_start_is, no_least_start}
+use Rattle.module_area.proofs.StartLemmas.{find_unmet, free_from_none, least_start_is}
+use Rattle.core_list.proofs.Refused.{Says}
 use Rattle.core_list.proofs.Room.{least_is_free}
-use Rattle.reclaim.specs.Loading.{IsPrepared, is_cramped, late_refusal, loaded_as, tags_in}
+use Rattle.reclaim.specs.Loading.{IsPrepared, is_cramped, late_refusal, loaded_as}
+use Rattle.tag_section.specs.Section.{tags_in}
 use Rattle.reclaim.specs.State.{IsLocked, IsNamed, LockedShown, part_of}
 use Rattle.reclaim.specs.Sweeps.{Cleaned, is_kept, with_entries}
-
--- what the search answers
-pub start_is : (area : Area) (size : ℕ) (o : Option ℕ) → IsBook area → 1 ≤ size → MatchOption o (HasNoRoom area size) (IsLeastStart area size) → o ≡ least_start area size
-start_is area size None book some none = sym (no_least_start area size none)
-start_is area size (Some start) book some least = sym (least_start_is area size start book some least)
 
 -- a range that no entry meets is apart from each record's
 unmet_apart : (entries : List Entry) (start size : ℕ) → list_any (λ e. meets e start size) entries ≡ false → list_all (λ (r : Record). nat_le (r.start + r.length) start || nat_le (start + size) r.start) (map record_of entries) ≡ true

@@ -1,5 +1,5 @@
 -- What a cleaning with lent words releases: the dead modules whose tags' words add up to 0.
-use Rattle.std.proofs.Common.{◌≡◌, ◌≢◌, ℕ, zero, suc, ◌+◌, ◌<◌, ◌≤◌, ◌==◌, ◌&&◌, ◌||◌, List, [], ◌∷◌, filter, map, None, Some, refl, sym, ap, ◌∙◌, subst, arith, Bool, true, false, not, cond, All, eqb-true, eq-eqb, ne_eqb, inl, inr, ◌⊎◌}
+use Rattle.std.proofs.Common.{◌≡◌, ◌≢◌, ℕ, ◌+◌, ◌<◌, ◌≤◌, ◌==◌, ◌&&◌, ◌||◌, List, [], ◌∷◌, filter, map, None, Some, refl, sym, ap, ◌∙◌, subst, arith, Bool, true, false, not, cond, All, eqb-true, eq-eqb, ne_eqb, inl, inr, ◌⊎◌}
 use Rattle.std.specs.List.{list_all, list_any, range_with_len}
 use Rattle.std.proofs.lemmas.Bool.{and_from, and_parts, cases_Bool, cases_eq, cond-true, cond-false, false≢true}
 use Rattle.std.proofs.lemmas.List.Elements.{All-cons, All-nil, All-head, All-tail, All-weaker}
@@ -39,6 +39,7 @@ use Rattle.reclaim.proofs.QuietParts.{base_of, counts_here, made_up}
 use Rattle.reclaim.proofs.QuietSweep.{AreAll, AreRecords, IsQuietly, IsTrueStop, are_all, begins_start, own_reads, scans_quietly, start_whole}
 use Rattle.reclaim.proofs.QuietSums.{number}
 use Rattle.reclaim.proofs.Reading.{reads_account, reads_keep}
+use Rattle.tag_model.proofs.Lists.{all_range, range_at}
 
 -- ---- from the beginning to the end of the reads
 
@@ -82,19 +83,6 @@ stop_of P id (s ∷ stops) all there = go (s.id == id) refl there (λ h. stop_of
     go true is h later = record { stop = s; its = eqb-true s.id id is; holds = All-head P s stops all }
     go false is h later = later h
 
-list_all_at : (p : ℕ → Bool) (low n t : ℕ) → list_all p (range_with_len low n) ≡ true → low ≤ t → t < low + n → p t ≡ true
-list_all_at p low zero t all above below = absurd (omega arith)
-list_all_at p low (suc n) t all above below =
-    let both = and_parts (p low) (list_all p (range_with_len (low + 1) n)) all in
-    elim (cases_eq low t) [
-      | inl same ↦ ap p (sym same) ∙ both.0
-      | inr apart ↦ list_all_at p (low + 1) n t both.1 (omega arith) (omega arith)
-    ]
-
-all_in : (p : ℕ → Bool) (low n : ℕ) → ((t : ℕ) → low ≤ t → t < low + n → p t ≡ true) → list_all p (range_with_len low n) ≡ true
-all_in p low zero h = refl
-all_in p low (suc n) h = and_from _ _ (h low (omega arith) (omega arith)) (all_in p (low + 1) n (λ t above below. h t (omega arith) (omega arith)))
-
 -- a dead entry with a stop has a tag whose words don't add up to 0
 stops_unquiet : (cpus : List CpuShown) (area : Area) (e : Entry) (stops : List Stop) → IsBook area → entry_of area.entries e.id ≡ Some e → All (IsTrueStop cpus (map record_of area.entries)) stops → has_stop e.id stops ≡ true → is_quiet cpus e ≡ false
 stops_unquiet cpus area e stops book found all there =
@@ -111,7 +99,7 @@ stops_unquiet cpus area e stops book found all there =
 
     go : {t : ℕ} → (is_quiet cpus e ≡ true) ⊎ (is_quiet cpus e ≡ false) → (kind : Kind) → total kind t cpus ≢ 0 → (e.start ≤ t) × (t < e.start + e.length) → is_quiet cpus e ≡ false
     go (inr no_one) kind some within = no_one
-    go {t} (inl quiet) kind some within = absurd (loud kind t some (list_all_at (is_quiet_tag cpus) e.start e.length t quiet within.0 within.1))
+    go {t} (inl quiet) kind some within = absurd (loud kind t some (range_at (is_quiet_tag cpus) e.start e.length t quiet within.0 within.1))
 
 -- a dead entry on the list of a sweep that is done has none
 listed_quiet : (k : Shape) (cpus : List CpuShown) (area : Area) (e : Entry) (p : ListPart) → IsBook area → area.first + area.tags ≤ k.tags → entry_of area.entries e.id ≡ Some e → p.records ≡ map record_of area.entries → is_still p.sweep ≡ true → IsQuietly k cpus p
@@ -138,7 +126,7 @@ listed_quiet k cpus area e p book small found records still quietly listed = go 
     go sweep.None is still listed = absurd (false≢true listed)
     go (sweep.Reading left r) is still listed = absurd (false≢true still)
     go (sweep.Done left) is still listed =
-        all_in (is_quiet_tag cpus) e.start e.length (λ t above below.
+        all_range (is_quiet_tag cpus) e.start e.length (λ t above below.
         let covers = covered left t listed above below in
         let within : t < k.tags = omega (arith, lies, below) in
         and_from _ _ (zero_sum left is Bytes t within covers) (zero_sum left is Calls t within covers))

@@ -1,7 +1,7 @@
 -- What a load answers, and what it leaves.
 use Rattle.std.specs.Prelude.{◌≡◌, ℕ, ◌==◌, ◌&&◌, ◌||◌, not, nat_lt, Bool, if◌then◌else◌, Option, Some, None, Result, Ok, Err, List, [], ◌∷◌, ◌++◌, length, MatchBool, MatchOption}
 use Rattle.std.specs.Option.{is_some, unwrap_or}
-use Rattle.tag_section.specs.Section.{Section, section_at}
+use Rattle.tag_section.specs.Section.{Section, tags_in}
 use Rattle.module_area.specs.declared.book.AreaError.{AreaError}
 use Rattle.module_area.specs.declared.book.AreaError.TheVariants.{SameName, BookFull, NoRoom, NoSection}
 use Rattle.module_area.specs.declared.entry.State.TheVariants.{Loaded}
@@ -9,10 +9,6 @@ use Rattle.module_area.specs.Entries.{id_loaded}
 use Rattle.module_area.specs.Area.{Area, least_start}
 use Rattle.reclaim.specs.State.{LockedShown}
 use Rattle.reclaim.specs.Sweeps.{Cleaned, with_entries}
-
--- how many tags the section has
-abbrev pub tags_in : List Section → ℕ → ℕ
-tags_in sections section = length (section_at sections section).tags
 
 -- it is a module's section, and has a tag
 abbrev pub has_tags : List Section → ℕ → Bool

@@ -3,7 +3,8 @@
 ghost use Rattle.std.specs.Prelude.{◌≡◌, ◌+◌, ◌<◌, ◌≤◌, length, All, Err, MatchOption, Ok, OnErr, OnOk};
 ghost use Rattle.module_area.specs.Area.{least_start};
 ghost use Rattle.module_area.specs.Entries.{IsLoadedAs};
-ghost use Rattle.reclaim.specs.Loading.{IsPrepared, LoadEnds, early_refusal, late_refusal, loaded_as, tags_in};
+ghost use Rattle.reclaim.specs.Loading.{IsPrepared, LoadEnds, early_refusal, late_refusal, loaded_as};
+ghost use Rattle.tag_section.specs.Section.{tags_in};
 
 use crate::Locked;
 use crate::cleaning::clean_locked;

@@ -27,7 +27,7 @@ use Rattle.tag_rule.specs.Meeting.{AreLoaded, AreMet, IsMetCpu, StandSafe, first
 use Rattle.tag_rule.specs.Shown.{Board, CpuShown, ListShown}
 use Rattle.tag_rule.specs.Tokens.{board_of}
 use Rattle.tag_rule.proofs.Dealt.{count_run}
-use Rattle.tag_rule.proofs.GivenRuns.{users_here}
+use Rattle.tag_model.proofs.ListTells.{users_here}
 use Rattle.tag_rule.proofs.Tellings.{list_holds}
 
 -- ---- parts one by one before others

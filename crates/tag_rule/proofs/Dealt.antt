@@ -16,7 +16,8 @@ use Rattle.tag_rule.specs.Fresh.{cpu_at, empty_cell, fresh_cpus, object_count, p
 use Rattle.tag_rule.specs.Made.{fresh_vectors, pools}
 use Rattle.tag_rule.specs.Rule.{view_of}
 use Rattle.tag_rule.specs.Seated.{cells_in, CellsHold}
-use Rattle.tag_rule.proofs.Pools.{all_range, cells_of, drop_places}
+use Rattle.tag_model.proofs.Lists.{all_range}
+use Rattle.tag_rule.proofs.Pools.{cells_of, drop_places}
 use Rattle.tag_rule.specs.declared.words.Words.{Words}
 use Rattle.tag_rule.specs.Shown.{PoolShown}
 use Rattle.tag_rule.specs.Tokens.{board_of}

@@ -1,5 +1,5 @@
 -- A run that goes from the module list to a CPU, or back: the views move so with no word changed, and the cover law ties the run to its record.
-use Rattle.std.proofs.Common.{◌≡◌, ℕ, ◌+◌, ◌<◌, ◌≤◌, ◌==◌, ◌||◌, ◌⊎◌, if◌then◌else◌, not, List, [], ◌∷◌, ◌++◌, find, filter, count_by, sum_by, refl, sym, ap, subst, ◌∙◌, arith, length, inl, inr, Bool, true, false, cond, le-leb, Option, Some, None, append-nil, length-append}
+use Rattle.std.proofs.Common.{◌≡◌, ℕ, ◌+◌, ◌<◌, ◌≤◌, ◌==◌, ◌||◌, ◌⊎◌, not, List, [], ◌∷◌, ◌++◌, find, filter, count_by, refl, sym, ap, subst, ◌∙◌, arith, length, inl, inr, Bool, true, false, cond, le-leb, Option, Some, None, append-nil, length-append}
 use Rattle.std.specs.List.{list_all, list_any}
 use Rattle.std.proofs.lemmas.Bool.{and_from, cases_Bool, false≢true, or_left}
 use Rattle.std.proofs.lemmas.List.{length-map, map-append}
@@ -20,10 +20,10 @@ use Rattle.tag_model.proofs.Alike.{of_records}
 use Rattle.tag_model.proofs.BaseMoves.{safe-gives_run, safe-takes_run}
 use Rattle.tag_model.proofs.Found.{all_at, any_at, count_at, found}
 use Rattle.tag_model.proofs.Lent.{few_runs, stand_back, the_list_of}
-use Rattle.tag_model.proofs.Ids.{all_filter, field_here}
+use Rattle.tag_model.proofs.Ids.{all_filter}
 use Rattle.tag_model.proofs.ListTells.{list_laws_of, users_are_runs}
 use Rattle.tag_model.proofs.Lists.{record_fits_means}
-use Rattle.tag_model.proofs.Swept.{ListLaws, loaded_as_means, same_run_refl}
+use Rattle.tag_model.proofs.Swept.{loaded_as_means, same_run_refl}
 use Rattle.tag_model.proofs.Told.{one_run_each}
 use Rattle.tag_rule.specs.declared.view.View.{View}
 use Rattle.tag_rule.specs.declared.words.Words.{Words}
@@ -36,6 +36,7 @@ use Rattle.tag_rule.specs.Shown.{Board, CpuShown, ListShown}
 use Rattle.tag_rule.specs.Tokens.{board_of}
 use Rattle.tag_rule.proofs.Away.{FirstRun, first_run}
 use Rattle.tag_rule.proofs.Meets.{Own, list_tells}
+use Rattle.tag_model.proofs.ListTells.{users_here}
 
 -- ---- what becomes of the two
 
@@ -131,12 +132,6 @@ module _ (k : Shape) (id : ℕ) (c : CpuPart) (l : ListPart) where
       }
 
 -- ---- what the cover law says between the two
-
--- a record's users are those of its id
-pub users_here : (k : Shape) (l : ListPart) → ListLaws k l → (front : List Record) (r : Record) (back : List Record) → l.records ≡ front ++ r ∷ back → users_of r.id (Modules l) ≡ r.users
-users_here k l laws front r back is =
-    subst (λ (rs : List Record). sum_by (λ (x : Record). if x.id == r.id then x.users else 0) rs ≡ r.users) (sym is)
-    (field_here (λ (x : Record). x.users) front r back r.id refl (subst (λ (rs : List Record). count_by (λ (x : Record). x.id == r.id) rs ≤ 1) is (laws.apart r.id)))
 
 -- a run that the two have, its record and that record's users
 pub between : (k : Shape) (run : Run) (c : CpuPart) (l : ListPart) (ps : List Part) → Stands (Cpu c ∷ Modules l ∷ []) ps → Safe k ps → 0 < count_by (same_run run) c.runs + count_by (same_run run) l.away → list_any (covers_run k run l c) l.records ≡ true

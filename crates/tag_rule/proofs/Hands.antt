@@ -8,10 +8,10 @@ use Rattle.tag_model.specs.declared.state.Held.TheVariants as held
 use Rattle.tag_model.specs.declared.state.Kind.{Kind}
 use Rattle.tag_model.specs.declared.state.Kind.TheVariants.{Bytes, Calls}
 use Rattle.tag_model.specs.declared.state.Tag.{Tag}
-use Rattle.tag_model.specs.Reference.{amount, hand_counts_of, held_counts_of, hand_fits, is_settled, same_tag}
+use Rattle.tag_model.specs.Reference.{amount, hand_counts_of, held_counts_of, hand_fits, is_counted, is_settled, same_tag}
 use Rattle.tag_model.specs.StepRules.{WritesPlace}
 use Rattle.tag_model.proofs.CpuFits.{hand_fits_means, hand_fits_from, same_tag_refl, same_tag_means}
-use Rattle.tag_rule.specs.Steps.{with_hand, left, left_hand, left_of_hand, left_of_place, or_hand, counts, hand_after}
+use Rattle.tag_rule.specs.Steps.{with_hand, left, left_hand, left_of_hand, left_of_place, or_hand, hand_after}
 
 -- the hand, of no allocation
 abbrev pub settled : Option Hand → Option Hand
@@ -111,7 +111,7 @@ pub found_is : (own : Option Hand) (was next : Held) (hand : Option Hand) → ((
 found_is own was next None stays fits = found_none own was next stays
 found_is own was next (Some h) stays fits = both own was next h stays (hand_fits_means h fits).some own refl
 
-uncounted : (kind : Kind) (tag : Tag) (h : Held) → not (counts h) ≡ true → held_counts_of kind tag h ≡ 0
+uncounted : (kind : Kind) (tag : Tag) (h : Held) → not (is_counted h) ≡ true → held_counts_of kind tag h ≡ 0
 uncounted kind tag held.None e = refl
 uncounted kind tag held.Empty e = refl
 uncounted kind tag (held.Counted named size) e = absurd (false≢true e)
@@ -126,11 +126,11 @@ is_settled_now (Some h) = refl
 
 -- where some hand makes the write a step of the rules, the hand that is found does
 pub condition : (c : CpuPart) (was next : Held) (hand : Option Hand) → hand_fits c.hand ≡ true → WritesPlace c (with_hand hand c) was next → WritesPlace c (with_hand (hand_after c.hand was next) c) was next
-condition c was next hand fits row = go (not (counts was) && not (counts next)) refl
+condition c was next hand fits row = go (not (is_counted was) && not (is_counted next)) refl
   where
-    go : (b : Bool) → (not (counts was) && not (counts next)) ≡ b → WritesPlace c (with_hand (hand_after c.hand was next) c) was next
+    go : (b : Bool) → (not (is_counted was) && not (is_counted next)) ≡ b → WritesPlace c (with_hand (hand_after c.hand was next) c) was next
     go true e =
-        let none = and_parts (not (counts was)) (not (counts next)) e in
+        let none = and_parts (not (is_counted was)) (not (is_counted next)) e in
         let stay : hand_after c.hand was next ≡ c.hand = rw e refl in
         subst (λ (o : Option Hand). WritesPlace c (with_hand o c) was next) (sym stay)
         (record { place_fits = row.place_fits; hand_fits = fits; stays = λ kind tag. omega (arith, uncounted kind tag was none.0, uncounted kind tag next none.1); settled = inl refl; after = refl })

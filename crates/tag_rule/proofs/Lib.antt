@@ -24,3 +24,4 @@ pub mod GivenRuns
 pub mod Noted
 pub mod AllMeet
 pub mod NewTable
+pub mod OneByOne

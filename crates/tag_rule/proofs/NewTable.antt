@@ -9,7 +9,7 @@ use Rattle.tag_model.specs.WordState.{in_range}
 use Rattle.tag_rule.specs.declared.making.Seats.{Seats}
 use Rattle.tag_rule.specs.Fresh.{fresh_cpu}
 use Rattle.tag_rule.specs.Made.{AreFresh}
-use Rattle.tag_rule.specs.Shown.{CpuShown, ListShown, PoolShown, has}
+use Rattle.tag_rule.specs.Shown.{CellShown, CpuShown, ListShown, PoolShown, has}
 use Rattle.tag_rule.proofs.Runs.{has_range}
 
 some_cpu : (k : Shape) (s : Seats) (f : AreFresh k s) → 0 < k.cpus → 0 < f.board.shape.cpus
@@ -48,3 +48,7 @@ pub pages_long : (k : Shape) (s : Seats) (f : AreFresh k s) → length s.pages.i
 pages_long k s f =
     ap length f.pages ∙ length-map-range_with_len (λ n. record { board = f.board; cells = range_with_len (page_index f.board.shape n 0) f.board.shape.frames }) 0 f.board.shape.cpus
     ∙ ap (λ (shape : Shape). shape.cpus) f.shape
+
+-- a run out of the first CPU's pool is of the table
+pub run_there : (k : Shape) (s : Seats) (f : AreFresh k s) (p : PoolShown) (run : CellShown) → 0 < k.cpus → p ≡ slice_index_or s.pages.items 0 p → run.board ≡ p.board → run.board ≡ s.list.board
+run_there k s f p run some is out = out ∙ ap (λ (pool : PoolShown). pool.board) (first_pool k s f p some is) ∙ sym (list_there k s f)

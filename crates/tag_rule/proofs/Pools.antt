@@ -1,6 +1,6 @@
 -- Base moves of cells: out of a pool, back into one, and a run cut in two.
 use Rattle.std.proofs.Common.{◌≡◌, ℕ, ◌+◌, ◌-◌, ◌<◌, ◌≤◌, ◌==◌, ◌&&◌, ◌||◌, ◌⊎◌, zero, suc, List, [], ◌∷◌, ◌++◌, take, drop, sum_by, count_by, sym, refl, ap, subst, ◌∙◌, arith, cond, not, Bool, true, false, nat_le, nat_lt, inl, inr, leb-true, ltb-true, le-leb, lt-ltb}
-use Rattle.std.specs.List.{list_any, list_all, range_with_len}
+use Rattle.std.specs.List.{list_any, range_with_len}
 use Rattle.std.proofs.lemmas.Bool.{cases_Bool, and_parts, and_from}
 use Rattle.std.proofs.lemmas.List.{map-append}
 use Rattle.std.proofs.lemmas.List.Folds.{list_any-append, list_all-append}
@@ -27,6 +27,7 @@ use Rattle.tag_rule.specs.Rule.{view_of, Moves, Tells}
 use Rattle.tag_rule.specs.Seated.{cells_in, cell_parts, CellHolds, CellsHold}
 use Rattle.tag_rule.proofs.Keeps.{same_parts}
 use Rattle.tag_rule.proofs.Runs.{outside, sum_outside, has_outside, has_range, all_outside, count_outside, has_once, all_has}
+use Rattle.tag_model.proofs.Lists.{all_range}
 
 -- ---- the cells of a seat
 
@@ -135,10 +136,6 @@ joined_cells xs first count some = ap (λ (ps : List Part). places xs ++ ps) (em
 
 count_places : (n : ℕ) (xs : List ℕ) → sum_by (is_place_at n) (places xs) ≡ count_by (λ m. m == n) xs
 count_places n xs = sum_places (is_place_at n) xs
-
-pub all_range : (p : ℕ → Bool) (first count : ℕ) → ((n : ℕ) → first ≤ n → n < first + count → p n ≡ true) → list_all p (range_with_len first count) ≡ true
-all_range p first zero h = refl
-all_range p first (suc count) h = and_from _ _ (h first (omega arith) (omega arith)) (all_range p (first + 1) count (λ n low high. h n (omega arith) (omega arith)))
 
 module _ (own : Words) (v w now : View) (cell : CellShown) (shown : PoolShown) (is : v ≡ view_of (places (cells_in v.parts))) (view : record { board = board_of own; cells = cells_in v.parts } ≡ shown) (holds : CellsHold own.shape (cells_in v.parts))
     (cell_is : w ≡ view_of (cell_parts cell.first cell.count cell.held)) (fits : CellHolds cell.board.shape cell.first cell.count cell.held) (board : cell.board ≡ shown.board) (none : cell.held ≡ held.None)

@@ -6,7 +6,7 @@ use Rattle.tag_model.specs.declared.limits.TheConstants.{SIZE_END}
 use Rattle.tag_model.specs.declared.shape.Shape.{Shape}
 use Rattle.tag_model.specs.declared.state.CpuPart.{CpuPart}
 use Rattle.tag_model.specs.declared.state.Hand.{Hand}
-use Rattle.tag_model.specs.declared.state.Kind.TheVariants.{Bytes, Calls}
+use Rattle.tag_model.specs.declared.state.Kind.TheVariants.{Calls}
 use Rattle.tag_model.specs.declared.state.Run.{Run}
 use Rattle.tag_model.specs.declared.state.Tag.{Tag}
 use Rattle.tag_model.specs.Reference.{hand_fits}
@@ -18,7 +18,7 @@ use Rattle.tag_model.proofs.CpuRows.{safe-begins_allocation, safe-adds_call, saf
 use Rattle.tag_model.proofs.Found.{found_any, all_at}
 use Rattle.tag_model.proofs.Lists.{in_range_means}
 use Rattle.tag_rule.specs.declared.cpu.WordStep.{WordStep}
-use Rattle.tag_rule.specs.Parts.{KeepsCpu, raises_to, falls_to}
+use Rattle.tag_rule.specs.Parts.{KeepsCpu, bytes_step, raises_to, falls_to}
 use Rattle.tag_rule.specs.Seated.{IsCpuShown, hand_in_tags, run_in_tags}
 use Rattle.tag_rule.specs.Shown.{CpuShown}
 use Rattle.tag_rule.specs.Steps.{MaySplit, MayAddCall, HoldsOpening, HoldsBytes, HoldsCall, with_call}
@@ -98,9 +98,6 @@ call_owes cpu tag o hand shown may own is =
     go (inr (h, splits)) = splits_owes cpu tag h shown splits
 
 -- ---- add-bytes
-
-abbrev pub bytes_step : Hand → ℕ → WordStep
-bytes_step h n = record { kind = Bytes; tag = h.tag.number; hand = Some (record h { bytes = n }) }
 
 pub bytes_owes : (cpu : CpuShown) (h : Hand) (size : ℕ) → IsCpuShown cpu → HoldsOpening cpu → cpu.part.hand ≡ Some h → 0 < size → size < SIZE_END → Owes cpu (bytes_step h size) (raises_to (bytes_step h size) size cpu.part)
 bytes_owes cpu h size shown holds held some fits =

@@ -14,3 +14,4 @@ pub mod Scripts
 pub mod Names
 pub mod Runs
 pub mod Meeting
+pub mod Singles

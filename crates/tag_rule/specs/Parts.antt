@@ -1,13 +1,19 @@
 -- What a step makes of a CPU's part.
-use Rattle.std.specs.Prelude.{ℕ, List, [], ◌∷◌}
+use Rattle.std.specs.Prelude.{ℕ, Some, List, [], ◌∷◌}
 use Rattle.tag_model.specs.declared.shape.Shape.{Shape}
 use Rattle.tag_model.specs.declared.state.CpuPart.{CpuPart}
+use Rattle.tag_model.specs.declared.state.Hand.{Hand}
+use Rattle.tag_model.specs.declared.state.Kind.TheVariants.{Bytes}
 use Rattle.tag_model.specs.declared.state.Part.{Part}
 use Rattle.tag_model.specs.declared.state.Part.TheVariants.{Cpu}
 use Rattle.tag_model.specs.Laws.{Safe}
 use Rattle.tag_model.specs.Shape.{IsChecked}
 use Rattle.tag_model.specs.StepRules.{Becomes, raised, lowered}
 use Rattle.tag_rule.specs.declared.cpu.WordStep.{WordStep}
+
+-- a step on the bytes under the hand's tag, after which so many bytes are in hand
+abbrev pub bytes_step : Hand → ℕ → WordStep
+bytes_step h n = record { kind = Bytes; tag = h.tag.number; hand = Some (record h { bytes = n }) }
 
 -- the CPU with the word raised, or lowered, and the step's hand
 abbrev pub raises_to : WordStep → ℕ → CpuPart → CpuPart

@@ -1,5 +1,5 @@
 -- What the steps on words ask, and what is in hand afterwards.
-use Rattle.std.specs.Prelude.{◌≡◌, ℕ, ◌+◌, ◌-◌, ◌<◌, ◌≤◌, ◌==◌, ◌&&◌, ◌⊎◌, not, Bool, true, false, IsTrue, if◌then◌else◌, Option, Some, None}
+use Rattle.std.specs.Prelude.{◌≡◌, ℕ, ◌+◌, ◌-◌, ◌<◌, ◌≤◌, ◌==◌, ◌&&◌, ◌⊎◌, not, true, false, IsTrue, if◌then◌else◌, Option, Some, None}
 use Rattle.tag_model.specs.declared.limits.TheConstants.{MAX_HAND_CALLS}
 use Rattle.tag_model.specs.declared.state.CpuPart.{CpuPart}
 use Rattle.tag_model.specs.declared.state.Hand.{Hand}
@@ -8,7 +8,7 @@ use Rattle.tag_model.specs.declared.state.Held.TheVariants as held
 use Rattle.tag_model.specs.declared.state.Kind.{Kind}
 use Rattle.tag_model.specs.declared.state.Kind.TheVariants.{Bytes, Calls}
 use Rattle.tag_model.specs.declared.state.Tag.{Tag}
-use Rattle.tag_model.specs.Reference.{hand_counts_of, held_counts_of}
+use Rattle.tag_model.specs.Reference.{hand_counts_of, held_counts_of, is_counted}
 use Rattle.tag_model.specs.StepRules.{may_begin}
 use Rattle.tag_rule.specs.Shown.{CpuShown}
 
@@ -80,11 +80,6 @@ left_of_place hand held.None next = None
 left_of_place hand held.Empty next = None
 left_of_place hand (held.Counted tag size) next = left_hand tag hand (held.Counted tag size) next
 
-abbrev pub counts : Held → Bool
-counts held.None = false
-counts held.Empty = false
-counts (held.Counted tag size) = true
-
 -- where neither what the place held nor what is written counts, the hand stays; else it is what is left of both
 abbrev pub hand_after : Option Hand → Held → Held → Option Hand
-hand_after hand was next = if not (counts was) && not (counts next) then hand else or_hand (left_of_hand hand was next) (left_of_place hand was next)
+hand_after hand was next = if not (is_counted was) && not (is_counted next) then hand else or_hand (left_of_hand hand was next) (left_of_place hand was next)

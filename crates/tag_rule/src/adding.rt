@@ -55,13 +55,5 @@ pub fn add_bytes(cpu: &mut CpuSeat, size: u64)
     let Some(hand) = cpu.hand() else {
         return;
     };
-    let step = WordStep {
-        kind: Kind::Bytes,
-        tag: hand.tag.number,
-        hand: Some(Hand {
-            bytes: size,
-            ..hand
-        }),
-    };
-    cpu.raise(step, size);
+    cpu.raise(WordStep::of_bytes(hand, size), size);
 }

@@ -6,7 +6,7 @@ ghost use Rattle.tag_model.specs.Index.{word_index};
 ghost use Rattle.tag_model.specs.Reference.{hand_fits};
 ghost use Rattle.tag_model.specs.Shape.{IsChecked};
 ghost use Rattle.tag_model.specs.declared.state.Run.{Run};
-ghost use Rattle.tag_rule.specs.Parts.{KeepsCpu, falls_to, raises_to};
+ghost use Rattle.tag_rule.specs.Parts.{KeepsCpu, bytes_step, falls_to, raises_to};
 ghost use Rattle.tag_rule.specs.Seated.{IsCpuShown, hand_in_tags};
 
 use crate::seats::{add, subtract};
@@ -45,6 +45,19 @@ pub(crate) struct WordStep {
     pub kind: Kind,
     pub tag: u32,
     pub hand: Option<Hand>,
+}
+
+impl WordStep {
+    /// A step on the bytes under the hand's tag, after which so many bytes are in hand.
+    pub fn of_bytes(hand: Hand, bytes: u64) -> WordStep
+        ensures { result ≡ bytes_step hand bytes }
+    {
+        WordStep {
+            kind: Kind::Bytes,
+            tag: hand.tag.number,
+            hand: Some(Hand { bytes, ..hand }),
+        }
+    }
 }
 
 /// Where the CPU's word of a kind for a tag stands in the table.

@@ -1,14 +1,16 @@
 //! Cells go out of a pool and come back: base moves alone.
 
-ghost use Rattle.std.specs.Prelude.{ℕ, ◌≡◌, ◌+◌, ◌-◌, ◌<◌, ◌&&◌, ◌||◌, not, false, IsTrue};
+ghost use Rattle.std.specs.Prelude.{ℕ, ◌≡◌, ◌+◌, ◌-◌, ◌<◌, ◌&&◌, ◌||◌, not, false, IfOk, IsTrue};
 ghost use Rattle.tag_model.specs.WordState.{in_range};
 ghost use Rattle.tag_model.specs.declared.state.Held.TheVariants as held;
 ghost use Rattle.tag_rule.specs.Shown.{has};
+ghost use Rattle.tag_rule.specs.Singles.{single_cells};
 
 use crate::cells::{CellPool, CellSeat};
 use crate::cpu::CpuSeat;
 use crate::seats::{divide_seat, split_off, turn, unite_seat};
 use crate::words::Words;
+use std::alloc::{AllocError, Global};
 use std::marker::Brand;
 use tag_model::Held;
 
@@ -87,4 +89,22 @@ pub fn divide(cpu: &CpuSeat, cell: CellSeat, count: u32) -> (CellSeat, CellSeat)
         held: Held::None,
     };
     (front, rest)
+}
+
+/// The cells of a run that holds nothing, one by one, in order.
+pub fn singles(alloc: Global, cpu: &CpuSeat, run: CellSeat) -> Result<Vec<CellSeat>, AllocError>
+    requires table { run.board ≡ cpu.now.board }
+    requires none { run.held ≡ held.None }
+    ensures { IfOk result (λ cells. cells.items ≡ single_cells run) }
+{
+    run.tell();
+    let mut cells = Vec::with_capacity(alloc, run.count() as usize)?;
+    let mut rest = run;
+    while rest.count() > 1 {
+        let (one, more) = divide(cpu, rest, 1);
+        cells.push(one)?;
+        rest = more;
+    }
+    cells.push(rest)?;
+    Ok(cells)
 }

@@ -18,14 +18,7 @@ pub fn sub_bytes(cpu: &mut CpuSeat, bytes: u64)
     let Some(hand) = cpu.hand() else {
         return;
     };
-    let step = WordStep {
-        kind: Kind::Bytes,
-        tag: hand.tag.number,
-        hand: Some(Hand {
-            bytes: hand.bytes - bytes,
-            ..hand
-        }),
-    };
+    let step = WordStep::of_bytes(hand, hand.bytes - bytes);
     cpu.lower(step, bytes);
 }
 

@@ -7,7 +7,7 @@ ghost use Rattle.tag_model.specs.Reference.{hand_counts_of, hand_fits, held_coun
 ghost use Rattle.tag_model.specs.StepRules.{WritesPlace};
 ghost use Rattle.tag_model.specs.declared.state.Kind.TheVariants.{Bytes, Calls};
 ghost use Rattle.tag_rule.specs.Rule.{Writes, view_of};
-ghost use Rattle.tag_rule.specs.Steps.{counts as counts_is, hand_after as hand_is, left_hand as left_is, left_of_place as left_of_place_is, with_hand};
+ghost use Rattle.tag_rule.specs.Steps.{hand_after as hand_is, left_hand as left_is, left_of_place as left_of_place_is, with_hand};
 ghost use Rattle.tag_rule.specs.Writing.{written};
 
 use crate::cells::CellSeat;
@@ -61,8 +61,8 @@ fn write_first(words: &Words, cpu: &mut Seat, cells: &mut Seat, at: usize, write
     unite_seat(words, cells, back);
 }
 
-// The word of what a cell holds.
-fn word_of(held: Held) -> u64
+/// The word of what a cell holds.
+pub fn word_of(held: Held) -> u64
     requires { IsTrue (held_fits held) × IsTrue (number_fits held) }
     ensures { result ≡ held_word held }
 {
@@ -134,15 +134,6 @@ fn left_hand(tag: Tag, hand: Option<Hand>, was: Held, next: Held) -> Option<Hand
     })
 }
 
-fn counts(held: Held) -> bool
-    ensures { result ≡ counts_is held }
-{
-    match held {
-        Held::Counted { tag: _, size: _ } => true,
-        _ => false,
-    }
-}
-
 // What is left under the place's tag.
 fn left_of_place(hand: Option<Hand>, was: Held, next: Held) -> Option<Hand>
     requires { IsTrue (hand_fits hand) × IsTrue (held_fits was) }
@@ -159,7 +150,7 @@ fn hand_after(hand: Option<Hand>, was: Held, next: Held) -> Option<Hand>
     requires { IsTrue (hand_fits hand) × IsTrue (held_fits was) }
     ensures { result ≡ hand_is hand was next }
 {
-    if !counts(was) && !counts(next) {
+    if !was.is_counted() && !next.is_counted() {
         return hand;
     }
     let Some(own) = hand else {

@@ -11,7 +11,7 @@ use std::alloc::{AllocError, Global};
 use std::thread::{Threads, join};
 use tag_model::{Held, Shape, Tag, page_cell};
 use tag_ref::{close_ref, open_ref};
-use tag_rule::{CellSeat, CpuSeat, ListSeat, Seats, divide, make, part};
+use tag_rule::{CellSeat, CpuSeat, ListSeat, Seats, make, part, singles};
 
 /// A CPU with the cells that it keeps and those that it hands on.
 #[derive(Drop)]
@@ -72,11 +72,9 @@ pub fn fill(desk: Desk, number: u32) -> Desk
     requires { number < 4 }
     ensures { result.cpu.board ≡ desk.cpu.board }
 {
-    let Desk {
-        mut cpu,
-        mut own,
-        mut given,
-    } = desk;
+    let mut cpu = desk.cpu;
+    let mut own = desk.own;
+    let mut given = desk.given;
     fill_all(&mut cpu, own.as_mut_slice(), number);
     fill_all(&mut cpu, given.as_mut_slice(), number);
     Desk { cpu, own, given }
@@ -86,11 +84,9 @@ pub fn fill(desk: Desk, number: u32) -> Desk
 pub fn finish(desk: Desk) -> Desk
     ensures { result.cpu.board ≡ desk.cpu.board }
 {
-    let Desk {
-        mut cpu,
-        mut own,
-        mut given,
-    } = desk;
+    let mut cpu = desk.cpu;
+    let mut own = desk.own;
+    let mut given = desk.given;
     clear_all(&mut cpu, own.as_mut_slice());
     clear_all(&mut cpu, given.as_mut_slice());
     Desk { cpu, own, given }
@@ -100,11 +96,9 @@ pub fn finish(desk: Desk) -> Desk
 fn work(desk: Desk, turns: u32) -> Desk
     ensures { result.cpu.board ≡ desk.cpu.board }
 {
-    let Desk {
-        mut cpu,
-        mut own,
-        mut given,
-    } = desk;
+    let mut cpu = desk.cpu;
+    let mut own = desk.own;
+    let mut given = desk.given;
     for turn in 0..turns {
         fill_all(&mut cpu, own.as_mut_slice(), turn % 4);
         fill_all(&mut cpu, given.as_mut_slice(), turn % 4);
@@ -168,45 +162,17 @@ fn handed(one: Desk, other: Desk) -> (Desk, Desk)
     requires { other.cpu.board ≡ one.cpu.board }
     ensures { (result.0.cpu.board ≡ one.cpu.board) × (result.1.cpu.board ≡ other.cpu.board) }
 {
-    let Desk { cpu, own, given } = one;
-    let Desk {
-        cpu: other_cpu,
-        own: other_own,
-        given: other_given,
-    } = other;
     let first = Desk {
-        cpu,
-        own,
-        given: other_given,
+        cpu: one.cpu,
+        own: one.own,
+        given: other.given,
     };
     let second = Desk {
-        cpu: other_cpu,
-        own: other_own,
-        given,
+        cpu: other.cpu,
+        own: other.own,
+        given: one.given,
     };
     (first, second)
-}
-
-/// The single cells of a run.
-fn cells_of(
-    alloc: Global,
-    list: &ListSeat,
-    cpu: &CpuSeat,
-    run: CellSeat,
-) -> Result<Vec<CellSeat>, AllocError>
-    requires cpu { cpu.now.board ≡ list.now.board }
-    requires run { run.board ≡ list.now.board }
-    ensures { IfOk result (λ cells. All (λ (c : CellShown). c.board ≡ list.now.board) cells.items) }
-{
-    let mut cells = Vec::new(alloc);
-    let mut rest = run;
-    while rest.count() > 1 {
-        let (one, more) = divide(cpu, rest, 1);
-        cells.push(one)?;
-        rest = more;
-    }
-    cells.push(rest)?;
-    Ok(cells)
 }
 
 fn take(
@@ -271,12 +237,11 @@ pub fn new_plant(alloc: Global, shape: Shape, count: u32) -> Result<Plant, Alloc
     let Seats {
         cpus,
         mut pages,
-        objects: _,
         list,
-        loads: _,
+        ..
     } = make(alloc, shape)?;
     let run = part(&mut pages[0], page_cell(shape, 0, 0), count);
-    let cells = cells_of(alloc, &list, &cpus[0], run)?;
+    let cells = singles(alloc, &cpus[0], run)?;
     Ok(Plant { cpus, cells, list })
 }
 
@@ -341,21 +306,15 @@ pub fn exchanged(one: Desk, other: Desk) -> (Desk, Desk)
     requires { other.cpu.board ≡ one.cpu.board }
     ensures { (result.0.cpu.board ≡ one.cpu.board) × (result.1.cpu.board ≡ other.cpu.board) }
 {
-    let Desk { cpu, own, given } = one;
-    let Desk {
-        cpu: other_cpu,
-        own: other_own,
-        given: other_given,
-    } = other;
     let first = Desk {
-        cpu,
-        own: other_own,
-        given: other_given,
+        cpu: one.cpu,
+        own: other.own,
+        given: other.given,
     };
     let second = Desk {
-        cpu: other_cpu,
-        own,
-        given,
+        cpu: other.cpu,
+        own: one.own,
+        given: one.given,
     };
     (first, second)
 }

@@ -1,6 +1,6 @@
 //! A new table with its module list, for the tests.
 
-ghost use Rattle.std.specs.Prelude.{All, IfOk, IfSome, IsTrue, ◌<◌, ◌≡◌, ◌≤◌, map};
+ghost use Rattle.std.specs.Prelude.{All, IfSome, IsTrue, ◌<◌, ◌≡◌, ◌≤◌, map};
 ghost use Rattle.std.specs.List.{range_with_len};
 ghost use Rattle.tag_model.specs.Shape.{IsChecked};
 ghost use Rattle.tag_model.specs.StepRules.{may_begin};
@@ -9,11 +9,11 @@ ghost use Rattle.tag_rule.specs.Shown.{CellShown, CpuShown};
 use crate::{Locked, enter_locked};
 use codetag::CodeTag;
 use module_area::Book;
-use std::alloc::{AllocError, Global};
+use std::alloc::Global;
 use std::sync::Arc;
 use std::test::Fail;
 use tag_model::{Shape, Tag, page_cell};
-use tag_rule::{CellSeat, CpuSeat, ListSeat, LoadPass, Seats, divide, make, part};
+use tag_rule::{CellSeat, CpuSeat, LoadPass, Seats, make, part, singles};
 use tag_section::Sections;
 
 /// The module list of a new table with its pass, all its CPUs, and cells of the first CPU's node.
@@ -39,28 +39,6 @@ fn program(alloc: Global) -> Result<Sections, Fail> {
     Ok(sections)
 }
 
-/// The single cells of a run.
-fn cells_of(
-    alloc: Global,
-    list: &ListSeat,
-    cpu: &CpuSeat,
-    run: CellSeat,
-) -> Result<Vec<CellSeat>, AllocError>
-    requires cpu { cpu.now.board ≡ list.now.board }
-    requires run { run.board ≡ list.now.board }
-    ensures { IfOk result (λ cells. All (λ (c : CellShown). c.board ≡ list.now.board) cells.items) }
-{
-    let mut cells = Vec::new(alloc);
-    let mut rest = run;
-    while rest.count() > 1 {
-        let (one, more) = divide(cpu, rest, 1);
-        cells.push(one)?;
-        rest = more;
-    }
-    cells.push(rest)?;
-    Ok(cells)
-}
-
 /// So many CPUs, a tag of the kernel and four of the area.
 pub fn shape_of(cpus: u32) -> Shape
     ensures { result ≡ record { cpus = cpus; tags = 5; kernel_tags = 1; frames = 512; vectors = 0 } }
@@ -83,12 +61,12 @@ pub fn new_plant(alloc: Global, shape: Shape, count: u32) -> Result<Plant, Fail>
     let Seats {
         cpus,
         mut pages,
-        objects: _,
         list,
         loads,
+        ..
     } = make(alloc, shape)?;
     let run = part(&mut pages[0], page_cell(shape, 0, 0), count);
-    let cells = cells_of(alloc, &list, &cpus[0], run)?;
+    let cells = singles(alloc, &cpus[0], run)?;
     let book = Book::new(alloc, 1, 4)?;
     let sections = Arc::new(alloc, program(alloc)?)?;
     let locked = Locked::new(book, list, sections);

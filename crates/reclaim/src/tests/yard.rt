@@ -70,11 +70,9 @@ fn wear_all(cpu: &mut CpuSeat, cells: &mut [CellSeat], spare: &mut CellSeat)
 fn free_all(side: Side) -> Side
     ensures { result.cpu.board ≡ side.cpu.board }
 {
-    let Side {
-        mut cpu,
-        mut cells,
-        mut spare,
-    } = side;
+    let mut cpu = side.cpu;
+    let mut cells = side.cells;
+    let mut spare = side.spare;
     clear(&mut cpu, &mut spare);
     wear_all(&mut cpu, cells.as_mut_slice(), &mut spare);
     Side { cpu, cells, spare }

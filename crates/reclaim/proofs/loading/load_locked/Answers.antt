@@ -1,6 +1,7 @@
 use Rattle.std.proofs.Common.{All, OnOk, subst}
 use Rattle.module_area.specs.Entries.{IsLoadedAs}
-use Rattle.reclaim.specs.Loading.{LoadEnds, early_refusal, tags_in}
+use Rattle.reclaim.specs.Loading.{LoadEnds, early_refusal}
+use Rattle.tag_section.specs.Section.{tags_in}
 use Rattle.reclaim.proofs.Load.{admitted, late_ends, prepared_all}
 use Rattle.reclaim.proofs.loading.load_locked.Goals as goal
 

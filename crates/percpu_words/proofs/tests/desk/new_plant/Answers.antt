@@ -2,8 +2,9 @@ use Rattle.std.proofs.Common.{◌≡◌, ◌<◌, ◌≤◌, All, None, length, 
 use Rattle.tag_model.specs.declared.shape.Shape.{Shape}
 use Rattle.tag_rule.specs.declared.making.Seats.{Seats}
 use Rattle.tag_rule.specs.Made.{AreFresh}
-use Rattle.tag_rule.specs.Shown.{Board, CellShown, CpuShown, PoolShown}
-use Rattle.tag_rule.proofs.NewTable.{cpu_at, cpus_long, first_pool, list_there, pages_long, pool_has}
+use Rattle.tag_rule.specs.Shown.{Board, CellShown, CpuShown}
+use Rattle.tag_rule.proofs.OneByOne.{singles_there}
+use Rattle.tag_rule.proofs.NewTable.{cpu_at, cpus_long, list_there, pages_long, pool_has, run_there}
 use Rattle.percpu_words.proofs.tests.desk.new_plant.Goals as goal
 
 kernel_there : (k : Shape) (s : Seats) (f : AreFresh k s) → 3 < k.kernel_tags → k.kernel_tags ≤ k.tags → (3 < s.list.board.shape.kernel_tags) × (3 < s.list.board.shape.tags)
@@ -30,21 +31,24 @@ index-requires c = let long = cpus_long c.args.shape c.in_ok-cpus.field-0 c.in_o
     let low : 0 < c.in_ok-cpus.field-0.cpus.len = omega (arith, long, c.in_ok-cpus.field-0.cpus.ok.0, c.requires.checked.some_cpu) in
     low
 
-pub cells_of-requires-clause-cpu : goal.cells_of-requires-clause-cpu
-cells_of-requires-clause-cpu c =
+pub singles-requires-clause-table : goal.singles-requires-clause-table
+singles-requires-clause-table c =
     let long : length c.in_ok-cpus.field-0.cpus.items ≡ c.args.shape.cpus = cpus_long c.args.shape c.in_ok-cpus.field-0 c.in_ok-cpus.ensures in
-    ap (λ (cpu : CpuShown). cpu.board) (c.index.ensures ∙ cpu_at c.args.shape c.in_ok-cpus.field-0 c.in_ok-cpus.ensures 0 c.index.result.now (omega (arith, long, c.requires.checked.some_cpu)))
-    ∙ sym (list_there c.args.shape c.in_ok-cpus.field-0 c.in_ok-cpus.ensures)
+    run_there c.args.shape c.in_ok-cpus.field-0 c.in_ok-cpus.ensures c.index_mut.result.now c.part-run.result c.requires.checked.some_cpu c.index_mut.ensures.value (ap (λ (cell : CellShown). cell.board) c.part-run.ensures.cell)
+    ∙ list_there c.args.shape c.in_ok-cpus.field-0 c.in_ok-cpus.ensures
+    ∙ sym (ap (λ (cpu : CpuShown). cpu.board) (c.index.ensures ∙ cpu_at c.args.shape c.in_ok-cpus.field-0 c.in_ok-cpus.ensures 0 c.index.result.now (omega (arith, long, c.requires.checked.some_cpu))))
 
-pub cells_of-requires-clause-run : goal.cells_of-requires-clause-run
-cells_of-requires-clause-run c =
-    ap (λ (cell : CellShown). cell.board) c.part-run.ensures.cell
-    ∙ ap (λ (pool : PoolShown). pool.board) (first_pool c.args.shape c.in_ok-cpus.field-0 c.in_ok-cpus.ensures c.index_mut.result.now c.requires.checked.some_cpu c.index_mut.ensures.value)
-    ∙ sym (list_there c.args.shape c.in_ok-cpus.field-0 c.in_ok-cpus.ensures)
+pub singles-requires-clause-none : goal.singles-requires-clause-none
+singles-requires-clause-none c = ap (λ (cell : CellShown). cell.held) c.part-run.ensures.cell
 
 pub invariant_of-result : goal.invariant_of-result
-invariant_of-result c = record {
-  kernel = kernel_there c.args.shape c.in_ok-cpus.field-0 c.in_ok-cpus.ensures c.requires.kernel c.requires.checked.few_kernel_tags;
-  cpus_there = cpus_there c.args.shape c.in_ok-cpus.field-0 c.in_ok-cpus.ensures;
-  cells_there = c.in_ok-cells.ensures;
-}
+invariant_of-result c =
+    let k = c.args.shape in
+    let s = c.in_ok-cpus.field-0 in
+    let f = c.in_ok-cpus.ensures in
+    let run = run_there k s f c.index_mut.result.now c.part-run.result c.requires.checked.some_cpu c.index_mut.ensures.value (ap (λ (cell : CellShown). cell.board) c.part-run.ensures.cell) in
+    record {
+      kernel = kernel_there k s f c.requires.kernel c.requires.checked.few_kernel_tags;
+      cpus_there = cpus_there k s f;
+      cells_there = singles_there s.list.board c.part-run.result c.in_ok-cells.cells.items c.in_ok-cells.ensures run;
+    }

@@ -8,7 +8,8 @@ use Rattle.tag_rule.specs.Shown.{ListShown}
 use Rattle.module_area.specs.declared.book.AreaError.{AreaError}
 use Rattle.module_area.specs.Area.{IsBook, least_start}
 use Rattle.module_area.specs.Entries.{IsLoadedAs}
-use Rattle.reclaim.specs.Loading.{late_refusal, loaded_as, tags_in}
+use Rattle.reclaim.specs.Loading.{late_refusal, loaded_as}
+use Rattle.tag_section.specs.Section.{tags_in}
 use Rattle.reclaim.specs.State.{LockedShown}
 use Rattle.reclaim.specs.Tied.{locked_shown}
 use Rattle.core_list.proofs.Refused.{Says}
