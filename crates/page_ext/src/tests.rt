@@ -5,7 +5,7 @@ use current_tag::Task;
 use std::alloc::{AllocError, Global};
 use std::test::Fail;
 use tag_model::{Held, Kind, Shape, Tag};
-use tag_rule::{CpuSeat, Seats, make, read_own};
+use tag_rule::{CpuSeat, make, read_own};
 
 // Threads may be handed the value.
 fn moves<T: Send>(_value: &T) {}
@@ -33,17 +33,11 @@ fn new_desk(alloc: Global) -> Result<Desk, AllocError>
         frames: 4,
         vectors: 0,
     };
-    let Seats {
-        mut cpus,
-        mut pages,
-        objects: _,
-        list: _,
-        loads: _,
-    } = make(alloc, shape)?;
-    let far = cpus.pop().unwrap();
-    let near = cpus.pop().unwrap();
-    let far_node = Node::new(alloc, 1, 4, pages.pop().unwrap())?;
-    let node = Node::new(alloc, 0, 4, pages.pop().unwrap())?;
+    let mut seats = make(alloc, shape)?;
+    let far = seats.cpus.pop().unwrap();
+    let near = seats.cpus.pop().unwrap();
+    let far_node = Node::new(alloc, 1, 4, seats.pages.pop().unwrap())?;
+    let node = Node::new(alloc, 0, 4, seats.pages.pop().unwrap())?;
     Ok(Desk {
         near,
         far,

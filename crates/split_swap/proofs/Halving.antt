@@ -20,6 +20,7 @@ use Rattle.tag_ref.specs.Refs.{holding, moved_by}
 use Rattle.page_ext.specs.Blocks.{is_whole, page_bytes}
 use Rattle.page_ext.specs.Shown.{BlockShown, Fits, IsWhole, high_half, low_half}
 use Rattle.split_swap.specs.Parts.{parts_in, part_shown, parts_shown}
+use Rattle.page_ext.specs.Lending.{with_cell}
 
 -- ---- how many parts
 
@@ -171,9 +172,6 @@ split_again cpu a b c (held.Counted tag size) m some first second third =
     ∙ sym (ap (with_words cpu) (raises_is cpu.part.number Calls tag (m + m - 1) cpu.part.words))
 
 -- ---- a split in two
-
-abbrev with_cell : BlockShown → CellShown → BlockShown
-with_cell block cell = record block { cell = cell }
 
 pub first_part : (block low : BlockShown) (cell : CellShown) → 0 < block.order → low ≡ low_half block → cell ≡ holding (part_of 2 low.cell.held) low.cell → with_cell low cell ≡ part_shown (block.order - 1) 0 block
 first_part block low cell some is holds =

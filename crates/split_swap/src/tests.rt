@@ -6,7 +6,7 @@ use page_ext::{Node, alloc_pages};
 use std::alloc::{AllocError, Global};
 use std::test::Fail;
 use tag_model::{Held, Kind, Shape, Tag};
-use tag_rule::{CpuSeat, Seats, make, read_own};
+use tag_rule::{CpuSeat, make, read_own};
 
 /// A CPU with its node of sixteen frames.
 #[derive(Drop)]
@@ -27,15 +27,9 @@ fn new_bench(alloc: Global) -> Result<Bench, AllocError> {
         frames: 16,
         vectors: 0,
     };
-    let Seats {
-        mut cpus,
-        mut pages,
-        objects: _,
-        list: _,
-        loads: _,
-    } = make(alloc, shape)?;
-    let cpu = cpus.pop().unwrap();
-    let node = Node::new(alloc, 0, 16, pages.pop().unwrap())?;
+    let mut seats = make(alloc, shape)?;
+    let cpu = seats.cpus.pop().unwrap();
+    let node = Node::new(alloc, 0, 16, seats.pages.pop().unwrap())?;
     Ok(Bench { cpu, node })
 }
 

@@ -20,11 +20,11 @@ has_frames b r frame is below =
 
 pub new-requires-clause-cells : goal.new-requires-clause-cells
 new-requires-clause-cells c =
-    let fresh : AreFresh (record { cpus = 1; tags = 4; kernel_tags = 4; frames = 16; vectors = 0 }) c.in_ok-cpus.field-0 = c.in_ok-cpus.ensures in
+    let fresh : AreFresh (record { cpus = 1; tags = 4; kernel_tags = 4; frames = 16; vectors = 0 }) c.in_ok-seats.seats = c.in_ok-seats.ensures in
     let b = fresh.board in
     let one : fresh_pages b ≡ pages_of b 0 ∷ [] = ap (λ n. map (pages_of b) (range_with_len 0 n)) (ap (λ k. k.cpus) fresh.shape) in
-    let all : c.in_ok-cpus.field-0.pages.items ≡ pages_of b 0 ∷ [] = fresh.pages ∙ one in
-    let popped : c.in_ok-cpus.field-0.pages.items ≡ c.pop-2.new.self.items ++ c.unwrap.result ∷ [] = c.pop-2.ensures.items ∙ ap (λ o. c.pop-2.new.self.items ++ option_to_list o) c.unwrap.ensures in
+    let all : c.in_ok-seats.seats.pages.items ≡ pages_of b 0 ∷ [] = fresh.pages ∙ one in
+    let popped : c.in_ok-seats.seats.pages.items ≡ c.pop-2.new.self.items ++ c.unwrap.result ∷ [] = c.pop-2.ensures.items ∙ ap (λ o. c.pop-2.new.self.items ++ option_to_list o) c.unwrap.ensures in
     let is : c.unwrap.result ≡ pages_of b 0 = only c.pop-2.new.self.items (pages_of b 0) c.unwrap.result (sym all ∙ popped) in
     let frames : b.shape.frames ≡ 16 = ap (λ k. k.frames) fresh.shape in
     λ frame below. has_frames b c.unwrap.result frame is (omega (arith, frames))

@@ -1,14 +1,8 @@
-use Rattle.std.proofs.Common.{ℕ, ◌≡◌, ◌+◌, ◌-◌, arith, sym, ap, ◌∙◌, subst, refl}
+use Rattle.std.proofs.Common.{◌-◌, sym, ap, ◌∙◌, subst, refl}
 use Rattle.std.specs.Fn.{FnOnceReturnsAtMut}
-use Rattle.tag_model.specs.declared.state.Tag.{Tag}
-use Rattle.current_tag.specs.Hooks.{TaskShown, hooked, kept_of, restored}
+use Rattle.current_tag.specs.Hooks.{hooked, kept_of, restored}
 use Rattle.current_tag.proofs.task.Task.with_tag.Goals as goal
-
-inverse : (tag : Tag) (task : TaskShown) → restored (kept_of task) (hooked tag task) ≡ task
-inverse tag task =
-    let same : task.depth + 1 - 1 ≡ task.depth = omega arith in
-    let with_depth : ℕ → TaskShown = λ d. record { current = task.current; depth = d } in
-    ap with_depth same
+use Rattle.current_tag.proofs.Unhooked.{unhooked}
 
 -- the task as the function leaves it is as it found it
 pub restore-requires : goal.restore-requires
@@ -24,7 +18,7 @@ returns-clause-same g c =
     c.restore.ensures
     ∙ ap (λ kept. restored kept c.f-answer.new.arg2) c.save-saved.ensures.kept
     ∙ ap (restored (kept_of c.args.self.now)) (c.requires.leaves c.f-answer.result c.f-answer.new.arg2 called)
-    ∙ inverse c.args.tag c.args.self.now
+    ∙ unhooked c.args.tag c.args.self.now
 
 pub returns-clause-answer : goal.returns-clause-answer
 returns-clause-answer g c =
