@@ -6,6 +6,7 @@ use Rattle.tag_model.specs.declared.state.Tag.{Tag}
 use Rattle.current_tag.specs.Hooks.{Kept, TaskShown, hooked, kept_of, restored}
 use Rattle.round_worker.specs.declared.hooks.Hook.{Hook}
 use Rattle.round_worker.specs.HooksOut.{AreHooks, tag_of}
+use Rattle.current_tag.proofs.Unhooked.{unhooked}
 
 pub current_is : (task : TaskShown) (hooks : List Hook) → AreHooks task hooks → task.current ≡ slice_get (map tag_of hooks) 0
 current_is task [] a = ap (λ (t : TaskShown). t.current) a
@@ -18,11 +19,8 @@ depth_is task (hook ∷ hooks) a =
     let rest : task.depth - 1 ≡ length (map tag_of hooks) = depth_is (restored hook.saved task) hooks a.2 in
     omega (arith, more, rest)
 
-unhooked_again : (tag : Tag) (task : TaskShown) → restored (kept_of task) (hooked tag task) ≡ task
-unhooked_again tag task = let e : task.depth + 1 - 1 ≡ task.depth = omega arith in λ i. record { current = task.current; depth = e i }
-
 pub one_more : (tag : Tag) (task : TaskShown) (hooks : List Hook) → AreHooks task hooks → AreHooks (hooked tag task) (record { tag = tag; saved = kept_of task } ∷ hooks)
-one_more tag task hooks a = (ap (hooked tag) (sym (unhooked_again tag task)), refl, subst (λ (t : TaskShown). AreHooks t hooks) (sym (unhooked_again tag task)) a)
+one_more tag task hooks a = (ap (hooked tag) (sym (unhooked tag task)), refl, subst (λ (t : TaskShown). AreHooks t hooks) (sym (unhooked tag task)) a)
 
 -- the last hook is taken off
 pub one_less : (task after : TaskShown) (hook : Hook) (hooks : List Hook) → AreHooks task (hook ∷ hooks) → after ≡ restored hook.saved task → AreHooks after hooks

@@ -1,4 +1,4 @@
--- A map of keys is its entries by rising key, in whatever order it has them.
+-- A map of keys is its entries by rising key. In what order it has them doesn't matter.
 use Rattle.std.proofs.Common.{◌≡◌, ℕ, ◌≢◌, Bool, true, false, cond, not, T, eqb, List, [], ◌∷◌, All, Option, Some, None, nat_cmp, Less, Equal, Greater, refl, sym, ap, ◌∙◌, ⊎_elim, eqb-true, ne_eqb, eq-eqb}
 use Rattle.std.specs.Prelude.{option_map, ◌&&◌}
 use Rattle.std.specs.List.{AllByRecursion, IsDistinct}

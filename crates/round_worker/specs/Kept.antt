@@ -22,7 +22,7 @@ use Rattle.slab_cache.specs.Shown.{IsLive, IsOfTable, Suits, cell_of, is_block, 
 abbrev pub KeyList : Type 0
 KeyList = List (ℕ × Kept)
 
--- entries in whatever order, by rising key
+-- entries put in order, by rising key
 abbrev pub by_key : {X : Type 0} → List (ℕ × X) → List (ℕ × X)
 by_key [] = []
 by_key (entry ∷ entries) = put nat_cmp entry.0 entry.1 (by_key entries)

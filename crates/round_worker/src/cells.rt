@@ -1,9 +1,7 @@
 //! The words of cells: of what keys are bound to, and of slabs.
 
 ghost use Rattle.std.specs.Option.{option_and_then, option_map};
-ghost use Rattle.std.specs.Prelude.{◌≡◌, All, IsTrue, Option, length};
-ghost use Rattle.tag_model.specs.RefWord.{held_word, number_fits};
-ghost use Rattle.tag_model.specs.Reference.{held_fits};
+ghost use Rattle.std.specs.Prelude.{◌≡◌, All, Option, length};
 ghost use Rattle.tag_model.specs.Shape.{IsChecked};
 ghost use Rattle.trace_play.specs.Left.{word_at};
 ghost use Rattle.trace_play.specs.Machine.{slab_cells};
@@ -14,8 +12,7 @@ use crate::keys::Kept;
 use crate::worker::Worker;
 use page_ext::Block;
 use slab_cache::SlabNode;
-use tag_model::{Held, RefWord};
-use tag_rule::CellSeat;
+use tag_rule::{CellSeat, word_of};
 
 impl Kept {
     /// The seat of what the key is bound to, if that has a cell.
@@ -76,17 +73,5 @@ pub fn word_of_seat(seat: Option<&CellSeat>, cell: usize) -> Option<u64>
             Some(word_of(seat.held()))
         }
         _ => None,
-    }
-}
-
-// The word of what a cell holds.
-fn word_of(held: Held) -> u64
-    requires { IsTrue (held_fits held) × IsTrue (number_fits held) }
-    ensures { result ≡ held_word held }
-{
-    match held {
-        Held::None => RefWord::none().word(),
-        Held::Empty => RefWord::empty().word(),
-        Held::Counted { tag, size } => RefWord::pack(tag.number, size).word(),
     }
 }

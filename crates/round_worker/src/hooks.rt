@@ -2,8 +2,8 @@
 
 ghost use Rattle.std.specs.Prelude.{◌≡◌, ◌<◌, ◌≤◌, ◌∷◌, [], ◌↔◌, drop, Err, IfOk, length, None, OnErr, OnOk, slice_get};
 ghost use Rattle.page_ext.specs.Paging.{MayCount};
-ghost use Rattle.slab_cache.specs.Calls.{Gives, most_bytes};
-ghost use Rattle.slab_cache.specs.Shown.{Stands, state_of};
+ghost use Rattle.slab_cache.specs.Calls.{Gives, IsAtHome, most_bytes};
+ghost use Rattle.slab_cache.specs.Shown.{state_of};
 ghost use Rattle.slab_cache.specs.Giving.{given_object};
 
 use current_tag::{Saved, Task};
@@ -89,10 +89,7 @@ impl Hooks {
         node: &mut SlabNode,
         size: u64,
     ) -> Result<Obj, ObjError>
-        requires table { node.old.node.board ≡ cpu.old.board }
-        requires own { node.old.vectors.cpu ≡ cpu.old.part.number }
-        requires stands { Stands node.old }
-        requires hand { cpu.old.part.hand ≡ None }
+        requires at_home { IsAtHome cpu.old node.old }
         requires few { length self.old ≤ 16 }
         requires allowed { MayCount (slice_get self.old 0) cpu.old }
         requires some { 0 < size }

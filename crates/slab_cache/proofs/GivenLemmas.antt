@@ -230,7 +230,7 @@ gives_block tag order meant node pages cpu cpu_after block stands own is gives =
 
 -- ---- a new slab is open
 
-slabs_of_vector : (out : Bool) (n : Option ℕ) (node : NodeState) → (with_vector out n node).slabs ≡ node.slabs
+pub slabs_of_vector : (out : Bool) (n : Option ℕ) (node : NodeState) → (with_vector out n node).slabs ≡ node.slabs
 slabs_of_vector out None node = refl
 slabs_of_vector out (Some n) node = refl
 

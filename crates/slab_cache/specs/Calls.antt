@@ -1,8 +1,6 @@
 -- What the calls give, and what they need of the storage that they are given.
 use Rattle.std.specs.List.{list_any}
-use Rattle.std.specs.Prelude.{ℕ, ◌≡◌, ◌+◌, ◌^◌, ◌≤◌, IsTrue, not, Bool, true, false, Option, Some, None, List, ◌++◌, length, slice_get, if◌then◌else◌}
-use Rattle.tag_model.specs.declared.state.Held.{Held}
-use Rattle.tag_model.specs.declared.state.Held.TheVariants as held
+use Rattle.std.specs.Prelude.{ℕ, ◌≡◌, ◌+◌, ◌^◌, ◌≤◌, IsTrue, not, true, false, Option, Some, None, List, ◌++◌, length, slice_get, if◌then◌else◌}
 use Rattle.tag_model.specs.Moves.{Move}
 use Rattle.tag_model.specs.RefMoves.{open_moves}
 use Rattle.tag_rule.specs.Shown.{CpuShown}
@@ -13,7 +11,7 @@ use Rattle.slab_cache.specs.Slabs.{Slab, NodeState, free_place, is_used, lowest_
 use Rattle.slab_cache.specs.Storage.{Storage, Pages, Object, Uncounted}
 use Rattle.slab_cache.specs.Giving.{Given, start_in, with_new_slab}
 use Rattle.slab_cache.specs.Homing.{come_home}
-use Rattle.slab_cache.specs.Shown.{SlabNodeShown, SlabShown, state_of, IsNow, storage_of, cell_of, Suits, IsOfTable}
+use Rattle.slab_cache.specs.Shown.{SlabNodeShown, SlabShown, Stands, state_of, IsNow, storage_of, cell_of, Suits, IsOfTable}
 use Rattle.slab_cache.specs.Tables.{IsSlabAt, place_in}
 use Rattle.slab_cache.specs.declared.object.Obj.{Obj}
 use Rattle.slab_cache.specs.declared.place.Place.{Place}
@@ -21,6 +19,13 @@ use Rattle.slab_cache.specs.declared.place.Place.{Place}
 -- the most bytes of an object: those of a block of order 10
 abbrev pub most_bytes : ℕ
 most_bytes = 4194304
+
+-- the CPU's own node, of its table, with its slabs in order, and nothing in the CPU's hand
+pub record IsAtHome (cpu : CpuShown) (node : SlabNodeShown) : Type 0 where
+  pub table : node.node.board ≡ cpu.board
+  pub own : node.vectors.cpu ≡ cpu.part.number
+  pub stands : Stands node
+  pub hand : cpu.part.hand ≡ None
 
 -- the call gives what was meant: that object, the node is then that node, and the CPU's words moved by those moves
 pub record Gives (meant : Option Given) (node after : SlabNodeShown) (cpu cpu_after : CpuShown) (obj : Obj) : Type 0 where
@@ -84,12 +89,6 @@ IsOf node (Uncounted home frame place) = IsPlace frame place None node
 pub record ComesHome (storage : Storage) (before : List Move) (node after : SlabNodeShown) (cpu cpu_after : CpuShown) : Type 0 where
   pub becomes : IsNow (come_home storage (state_of node)).node node after
   pub moves : cpu_after ≡ moved_by (before ++ (come_home storage (state_of node)).moves) cpu
-
--- whether a cell counts something
-abbrev pub counts : Held → Bool
-counts held.None = false
-counts held.Empty = false
-counts (held.Counted tag size) = true
 
 -- the slab that begins at the place's frame has lost the place: it stays if an object is in it, and else is taken out
 pub record ReturnsPlace (place : Place) (node after : SlabNodeShown) (gone : Option SlabShown) : Type 0 where

@@ -5,7 +5,7 @@ ghost use Rattle.buddy.specs.Frames.{least_start};
 ghost use Rattle.current_tag.specs.Hooks.{most_hooks};
 ghost use Rattle.page_ext.specs.Paging.{GivesBlock, MayCount};
 ghost use Rattle.slab_cache.specs.Bits.{class_at};
-ghost use Rattle.slab_cache.specs.Calls.{Gives, IsOpenIn, IsSlabBlock, MakesSlab, TakesPlaceOf, most_bytes, with_made_slab};
+ghost use Rattle.slab_cache.specs.Calls.{Gives, IsAtHome, IsOpenIn, IsSlabBlock, MakesSlab, TakesPlaceOf, most_bytes, with_made_slab};
 ghost use Rattle.slab_cache.specs.Classes as classes;
 ghost use Rattle.slab_cache.specs.Classes.{slab_order};
 ghost use Rattle.slab_cache.specs.Giving.{given_block, given_object, object_from, object_from_new, slab_or_new, start_in};
@@ -56,10 +56,7 @@ pub fn kmalloc(
     task: &mut Task,
     size: u64,
 ) -> Result<Obj, ObjError>
-    requires table { node.old.node.board ≡ cpu.old.board }
-    requires own { node.old.vectors.cpu ≡ cpu.old.part.number }
-    requires stands { Stands node.old }
-    requires hand { cpu.old.part.hand ≡ None }
+    requires at_home { IsAtHome cpu.old node.old }
     requires room { task.old.depth < most_hooks }
     requires allowed { MayCount task.old.current cpu.old }
     ensures task { task.new ≡ task.old }
@@ -88,10 +85,7 @@ fn object_or_block(
     task: &mut Task,
     size: u64,
 ) -> Result<Obj, NoFrames>
-    requires table { node.old.node.board ≡ cpu.old.board }
-    requires own { node.old.vectors.cpu ≡ cpu.old.part.number }
-    requires stands { Stands node.old }
-    requires hand { cpu.old.part.hand ≡ None }
+    requires at_home { IsAtHome cpu.old node.old }
     requires room { task.old.depth < most_hooks }
     requires allowed { MayCount task.old.current cpu.old }
     ensures task { task.new ≡ task.old }
@@ -107,10 +101,7 @@ fn object_or_block(
 
 // An object that is too large for a class: a block of its own.
 fn block_of(cpu: &mut CpuSeat, node: &mut SlabNode, task: &Task, size: u64) -> Result<Obj, NoFrames>
-    requires table { node.old.node.board ≡ cpu.old.board }
-    requires own { node.old.vectors.cpu ≡ cpu.old.part.number }
-    requires stands { Stands node.old }
-    requires hand { cpu.old.part.hand ≡ None }
+    requires at_home { IsAtHome cpu.old node.old }
     requires allowed { MayCount task.now.current cpu.old }
     ensures gives { IfOk result (Gives (given_block task.now.current (classes.order_of size) (state_of node.old)) node.old node.new cpu.old cpu.new) }
     ensures no_frames { IsErr result ↔ (given_block task.now.current (classes.order_of size) (state_of node.old) ≡ None) }
@@ -129,10 +120,7 @@ fn object_of(
     task: &mut Task,
     class: Class,
 ) -> Result<Obj, NoFrames>
-    requires table { node.old.node.board ≡ cpu.old.board }
-    requires own { node.old.vectors.cpu ≡ cpu.old.part.number }
-    requires stands { Stands node.old }
-    requires hand { cpu.old.part.hand ≡ None }
+    requires at_home { IsAtHome cpu.old node.old }
     requires room { task.old.depth < most_hooks }
     requires allowed { MayCount task.old.current cpu.old }
     ensures task { task.new ≡ task.old }
@@ -142,30 +130,11 @@ fn object_of(
 {
     match node.table.open_frame(class) {
         Some(frame) => Ok(object_at(cpu, node, task, class, frame)),
-        None => object_of_new(cpu, node, task, class),
+        None => {
+            let frame = new_slab(cpu, node, task, class)?;
+            Ok(object_at(cpu, node, task, class, frame))
+        }
     }
-}
-
-// An object of a class, of a new slab.
-fn object_of_new(
-    cpu: &mut CpuSeat,
-    node: &mut SlabNode,
-    task: &mut Task,
-    class: Class,
-) -> Result<Obj, NoFrames>
-    requires table { node.old.node.board ≡ cpu.old.board }
-    requires own { node.old.vectors.cpu ≡ cpu.old.part.number }
-    requires stands { Stands node.old }
-    requires hand { cpu.old.part.hand ≡ None }
-    requires room { task.old.depth < most_hooks }
-    requires allowed { MayCount task.old.current cpu.old }
-    ensures task { task.new ≡ task.old }
-    ensures gives { IfOk result (Gives (option_map (object_from_new task.old.current (class_at class.index) (state_of node.old)) (start_in (slab_order (class_at class.index)) (state_of node.old))) node.old node.new cpu.old cpu.new) }
-    ensures no_frames { IsErr result ↔ (start_in (slab_order (class_at class.index)) (state_of node.old) ≡ None) }
-    ensures same { OnErr result ((node.new ≡ node.old) × (cpu.new ≡ cpu.old)) }
-{
-    let frame = new_slab(cpu, node, task, class)?;
-    Ok(object_at(cpu, node, task, class, frame))
 }
 
 // Makes a slab of the class, in frames that are counted under the slab allocator's own tag, and tells its first frame.
@@ -175,10 +144,7 @@ fn new_slab(
     task: &mut Task,
     class: Class,
 ) -> Result<u32, NoFrames>
-    requires table { node.old.node.board ≡ cpu.old.board }
-    requires own { node.old.vectors.cpu ≡ cpu.old.part.number }
-    requires stands { Stands node.old }
-    requires hand { cpu.old.part.hand ≡ None }
+    requires at_home { IsAtHome cpu.old node.old }
     requires room { task.old.depth < most_hooks }
     ensures task { task.new ≡ task.old }
     ensures makes { IfOk result (MakesSlab (class_at class.index) node.old node.new cpu.old cpu.new) }
@@ -230,10 +196,7 @@ fn put_slab(node: &mut SlabNode, class: Class, block: Block) -> u32
 
 // The object at the lowest free place of the slab at a frame, counted where it has a cell.
 fn object_at(cpu: &mut CpuSeat, node: &mut SlabNode, task: &Task, class: Class, frame: u32) -> Obj
-    requires table { node.old.node.board ≡ cpu.old.board }
-    requires own { node.old.vectors.cpu ≡ cpu.old.part.number }
-    requires stands { Stands node.old }
-    requires hand { cpu.old.part.hand ≡ None }
+    requires at_home { IsAtHome cpu.old node.old }
     requires allowed { MayCount task.now.current cpu.old }
     requires open { IsOpenIn (class_at class.index) frame (state_of node.old) }
     ensures { Gives (option_map (object_from task.now.current (class_at class.index) frame (state_of node.old)) (slab_at frame (state_of node.old))) node.old node.new cpu.old cpu.new result }

@@ -3,7 +3,7 @@
 ghost use Rattle.std.specs.Prelude.{◌≡◌, ◌≢◌, ◌<◌, [], None, Some, false, length};
 ghost use Rattle.tag_model.specs.RefMoves.{close_moves};
 ghost use Rattle.tag_ref.specs.Refs.{moved_by};
-ghost use Rattle.slab_cache.specs.Calls.{ComesHome, IsOf, ReturnsPlace};
+ghost use Rattle.slab_cache.specs.Calls.{ComesHome, IsAtHome, IsOf, ReturnsPlace};
 ghost use Rattle.slab_cache.specs.Classes.{slab_order};
 ghost use Rattle.slab_cache.specs.Shown.{IsLive, IsNow, IsOfTable, Stands, Suits, cell_of, freed, state_of, storage_of, with_reference};
 ghost use Rattle.slab_cache.specs.Slabs.{is_used, slab_held, with_pages, with_vector};
@@ -25,10 +25,8 @@ use tag_rule::CpuSeat;
 /// Frees an object. Its reference is closed on this CPU. Where its home is this CPU its place or its frames are free at
 /// once, and else it is handed back, to go home.
 pub fn kfree(cpu: &mut CpuSeat, node: &mut SlabNode, obj: Obj) -> Option<Back>
-    requires table { (node.old.node.board ≡ cpu.old.board) × IsOfTable cpu.old.board (cell_of obj.stored) }
-    requires own { node.old.vectors.cpu ≡ cpu.old.part.number }
-    requires stands { Stands node.old }
-    requires hand { cpu.old.part.hand ≡ None }
+    requires at_home { IsAtHome cpu.old node.old }
+    requires table { IsOfTable cpu.old.board (cell_of obj.stored) }
     requires suits { Suits obj.stored }
     requires live { IsLive (cell_of obj.stored) }
     requires of_node { home_of (storage_of obj.stored) ≡ cpu.old.part.number → IsOf (state_of node.old) (storage_of obj.stored) }
@@ -49,10 +47,8 @@ pub fn kfree(cpu: &mut CpuSeat, node: &mut SlabNode, obj: Obj) -> Option<Back>
 /// Takes storage home that was freed on another CPU. A slab that no object is left in is given up: its vector goes in, and
 /// its block is freed on this CPU.
 pub fn take_home(cpu: &mut CpuSeat, node: &mut SlabNode, back: Back)
-    requires table { (node.old.node.board ≡ cpu.old.board) × IsOfTable cpu.old.board (cell_of back) }
-    requires own { node.old.vectors.cpu ≡ cpu.old.part.number }
-    requires stands { Stands node.old }
-    requires hand { cpu.old.part.hand ≡ None }
+    requires at_home { IsAtHome cpu.old node.old }
+    requires table { IsOfTable cpu.old.board (cell_of back) }
     requires home { home_of (storage_of back) ≡ cpu.old.part.number }
     requires of_node { IsOf (state_of node.old) (storage_of back) }
     ensures { ComesHome (storage_of back) [] node.old node.new cpu.old cpu.new }
@@ -65,10 +61,8 @@ pub fn take_home(cpu: &mut CpuSeat, node: &mut SlabNode, back: Back)
 
 // An object in a slab.
 fn free_place(cpu: &mut CpuSeat, node: &mut SlabNode, place: Place) -> Option<Back>
-    requires table { (node.old.node.board ≡ cpu.old.board) × IsOfTable cpu.old.board (cell_of (Stored.InSlab place)) }
-    requires own { node.old.vectors.cpu ≡ cpu.old.part.number }
-    requires stands { Stands node.old }
-    requires hand { cpu.old.part.hand ≡ None }
+    requires at_home { IsAtHome cpu.old node.old }
+    requires table { IsOfTable cpu.old.board (cell_of (Stored.InSlab place)) }
     requires suits { Suits (Stored.InSlab place) }
     requires live { IsLive (cell_of (Stored.InSlab place)) }
     requires of_node { place.home ≡ cpu.old.part.number → IsOf (state_of node.old) (storage_of (Stored.InSlab place)) }
@@ -102,10 +96,8 @@ fn close_place(cpu: &mut CpuSeat, place: &mut Place)
 
 // A place whose reference is closed is free again. A slab that no object is left in is given up.
 fn place_home(cpu: &mut CpuSeat, node: &mut SlabNode, place: Place)
-    requires table { (node.old.node.board ≡ cpu.old.board) × IsOfTable cpu.old.board (cell_of (Stored.InSlab place)) }
-    requires own { node.old.vectors.cpu ≡ cpu.old.part.number }
-    requires stands { Stands node.old }
-    requires hand { cpu.old.part.hand ≡ None }
+    requires at_home { IsAtHome cpu.old node.old }
+    requires table { IsOfTable cpu.old.board (cell_of (Stored.InSlab place)) }
     requires closed { with_reference held.None place ≡ place }
     requires suits { Suits (Stored.InSlab place) }
     requires home { place.home ≡ cpu.old.part.number }
@@ -132,10 +124,8 @@ fn return_place(node: &mut SlabNode, place: Place) -> Option<Slab>
 
 // Gives a slab up that was taken out of its table.
 fn give_up(cpu: &mut CpuSeat, node: &mut SlabNode, slab: Slab)
-    requires table { (node.old.node.board ≡ cpu.old.board) × (slab.board ≡ cpu.old.board) }
-    requires own { node.old.vectors.cpu ≡ cpu.old.part.number }
-    requires stands { Stands node.old }
-    requires hand { cpu.old.part.hand ≡ None }
+    requires at_home { IsAtHome cpu.old node.old }
+    requires table { slab.board ≡ cpu.old.board }
     requires unused { is_used slab.slab ≡ false }
     requires slab { IsSlabAt node.old.vectors.cpu (length node.old.slabs) (length node.old.vectors.pools) slab.frame slab }
     ensures node { IsNow (with_vector false slab.slab.vector (with_pages false slab.frame (slab_order slab.slab.class) (state_of node.old))) node.old node.new }

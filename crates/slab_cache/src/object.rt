@@ -2,7 +2,7 @@
 
 ghost use Rattle.std.specs.Borrow.{sem};
 ghost use Rattle.std.specs.Prelude.{◌≡◌, IfErr, IfOk, is_ok, option_map};
-ghost use Rattle.slab_cache.specs.Calls.{counts};
+ghost use Rattle.tag_model.specs.Reference.{is_counted as counts};
 ghost use Rattle.slab_cache.specs.Lending.{LendsCell, LendsStoredCell};
 ghost use Rattle.slab_cache.specs.Shown.{cell_of, is_block, storage_of};
 ghost use Rattle.slab_cache.specs.Storage.{held_of, home_of};
@@ -10,7 +10,6 @@ ghost use Rattle.slab_cache.specs.Storage.{held_of, home_of};
 use crate::place::Place;
 use page_ext::{Block, Returned};
 use std::marker::Model;
-use tag_model::Held;
 use tag_rule::CellSeat;
 
 /// An object: a place in a slab, or a block where it is too large for a slab. An object that is dropped is a leaked
@@ -131,7 +130,7 @@ pub fn is_counted(obj: &Obj) -> bool
     ensures { result ≡ counts (held_of (storage_of obj.now.stored)) }
 {
     match obj.cell() {
-        Some(cell) => matches!(cell.held(), Held::Counted { .. }),
+        Some(cell) => cell.held().is_counted(),
         None => false,
     }
 }

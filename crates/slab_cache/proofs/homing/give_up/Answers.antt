@@ -15,15 +15,15 @@ pub returns-clause-node : goal.returns-clause-node
 returns-clause-node c =
     let node = shown c.node.inside.node c.node.inside.vectors c.node.inside.table in
     let back = sym c.node.view_is in
-    let stands = subst Stands back c.requires.stands in
+    let stands = subst Stands back c.requires.at_home.stands in
     let slab = c.args.slab in
     let order = slab_order slab.slab.class in
     let vector = c.into_parts-block.result.1 in
     let parts = c.into_parts-block.ensures in
     let within : slab.frame + 2 ^ order ≤ length node.node.node.frames = subst (λ n. slab.frame + 2 ^ order ≤ n) (sym stands.frames) (subst (λ (n : SlabNodeShown). slab.frame + 2 ^ order ≤ length n.slabs) back c.requires.slab.within) in
-    let own : c.into_parts-block.result.0.home ≡ c.args.cpu.now.part.number = ap (λ (b : BlockShown). b.home) parts.block ∙ c.requires.slab.home ∙ c.requires.own in
+    let own : c.into_parts-block.result.0.home ≡ c.args.cpu.now.part.number = ap (λ (b : BlockShown). b.home) parts.block ∙ c.requires.slab.home ∙ c.requires.at_home.own in
     let freed : BlockShown → NodeShown = λ b. record node.node { node = with_frames false b.frame b.order node.node.node } in
-    let board : slab.board ≡ node.node.board = c.requires.table.1 ∙ sym c.requires.table.0 ∙ ap (λ (n : SlabNodeShown). n.node.board) back in
+    let board : slab.board ≡ node.node.board = c.requires.table ∙ sym c.requires.at_home.table ∙ ap (λ (n : SlabNodeShown). n.node.board) back in
     subst (λ n. IsNow (with_vector false slab.slab.vector (with_pages false slab.frame order (state_of n))) n (shown c.free_pages-none.new.node c.give_back.new.vectors c.node.inside.table)) c.node.view_is
     (given_up node c.free_pages-none.new.node c.give_back.new.vectors vector slab.slab.vector slab.frame order stands within ((c.free_pages-none.ensures.home own).1 ∙ ap freed parts.block) c.give_back.ensures parts.vector
     (λ v is. subst (λ o. IfSome o (λ w. w.pool.board ≡ slab.board)) is parts.table ∙ board))
