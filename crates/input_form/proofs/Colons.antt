@@ -1,17 +1,14 @@
 -- What stands round the first element that passes.
-use Rattle.std.proofs.Common.{◌≡◌, ℕ, ◌+◌, ◌-◌, ◌≤◌, Bool, ltb, List, [], length, take, drop, Some, None, position, sym, ap, ◌∙◌, arith}
+use Rattle.std.proofs.Common.{◌≡◌, ℕ, ◌+◌, ◌-◌, Bool, ltb, List, [], length, take, drop, Some, None, position, sym, ap, ◌∙◌, arith}
 use Rattle.std.specs.List.{before_first, after_first, position_or_len}
 use Rattle.std.proofs.lemmas.Bool.{cond_both}
 use Rattle.std.proofs.lemmas.Grind.{common_steps}
-use Rattle.text_form.proofs.Parts.{behind}
+use Rattle.text_form.proofs.Parts.{behind, none_before as past_all}
 
 place_is : (p : ℕ → Bool) (xs : List ℕ) (i : ℕ) → position p xs ≡ Some i → position_or_len p xs ≡ i
 place_is p xs i e =
     cond_both (ltb (position_or_len p xs) (length xs)) (Some (position_or_len p xs)) None (λ r. r ≡ Some i → position_or_len p xs ≡ i)
     (λ _ h. cc) (λ _ h. let no : ⊥ = cc in absurd no) e
-
-past_all : (p : ℕ → Bool) (xs : List ℕ) → position p xs ≡ None → length xs ≤ position_or_len p xs
-past_all p xs e = grind (arith, common_steps)
 
 pub found_before : (p : ℕ → Bool) (xs front : List ℕ) (i : ℕ) → position p xs ≡ Some i → front ≡ take i xs → front ≡ before_first p xs
 found_before p xs front i e f = f ∙ ap (λ n. take n xs) (sym (place_is p xs i e))

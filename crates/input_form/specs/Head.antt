@@ -1,5 +1,5 @@
 -- The sizes and the sections, which stand before the body.
-use Rattle.std.specs.Prelude.{ℕ, ◌-◌, ◌<◌, ◌==◌, Bool, ◌&&◌, not, nat_lt, List, [], length, Option, Some, None, is_none, unwrap_or, Result, Ok, ⊤}
+use Rattle.std.specs.Prelude.{ℕ, ◌-◌, ◌<◌, ◌==◌, Bool, ◌&&◌, not, nat_lt, List, [], length, Option, Some, None, is_none, unwrap_or, Result, Ok, Err, ⊤, codes, if◌then◌else◌}
 use Rattle.std.specs.Option.{ok_or}
 use Rattle.codetag.specs.Names.{is_file, is_function}
 use Rattle.codetag.specs.TagParts.{TagParts}
@@ -15,7 +15,17 @@ use Rattle.input_form.specs.declared.head.HeadWord.TheVariants as word
 use Rattle.input_form.specs.declared.head.Size.{Size}
 use Rattle.input_form.specs.declared.head.Size.TheVariants as size
 use Rattle.input_form.specs.Judging.{◌>>=◌, ◌>>◌, need}
-use Rattle.input_form.specs.Words.{number_word}
+use Rattle.input_form.specs.Words.{is_word, number_word}
+
+-- what a first word of both languages says; a language may have more sizes
+unfoldable pub head_word : List ℕ → Result HeadWord Code
+head_word name =
+    if is_word (codes "cpus") name then Ok (word.Size size.Cpus) else
+    if is_word (codes "area") name then Ok (word.Size size.Area) else
+    if is_word (codes "kernel") name then Ok word.Kernel else
+    if is_word (codes "module") name then Ok word.Module else
+    if is_word (codes "tag") name then Ok word.Tag else
+    Err code.Word
 
 -- the range of each size
 abbrev pub least : Size → ℕ

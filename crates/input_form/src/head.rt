@@ -3,12 +3,12 @@
 ghost use Rattle.std.specs.Prelude.{◌≡◌, ◌<◌, ◌≤◌, length, [], IfSome, OnOk};
 ghost use Rattle.tag_section.specs.ModuleName.{kernel_name};
 ghost use Rattle.tag_section.specs.Section.{with_section};
-ghost use Rattle.input_form.specs.Head.{head_line, least, most, size_in, with_size, size_line, kernel_line, module_line, tag_line, section_form, begun, added, tag_of, empty_head, cpus_of};
+ghost use Rattle.input_form.specs.Head.{head_line, head_word, least, most, size_in, with_size, size_line, kernel_line, module_line, tag_line, section_form, begun, added, tag_of, empty_head, cpus_of};
 ghost use Rattle.input_form.specs.Judging.{Leaves, Gives};
 
 use crate::code::Code;
 use crate::line_error::LineError;
-use crate::words::{need, number_word};
+use crate::words::{is_word, need, number_word};
 use codetag::{CodeTag, TagError};
 use std::alloc::{AllocError, Global};
 use tag_section::{SectionError, Sections};
@@ -30,6 +30,26 @@ pub enum HeadWord {
     Kernel,
     Module,
     Tag,
+}
+
+/// What a first word of both languages says. A language may have more sizes.
+#[tactic(auto, unfolding(crate::specs::Head::head_word))]
+pub fn head_word(word: &[u8]) -> Result<HeadWord, Code>
+    ensures { result ≡ head_word word.now }
+{
+    if is_word(word, b"cpus") {
+        Ok(HeadWord::Size(Size::Cpus))
+    } else if is_word(word, b"area") {
+        Ok(HeadWord::Size(Size::Area))
+    } else if is_word(word, b"kernel") {
+        Ok(HeadWord::Kernel)
+    } else if is_word(word, b"module") {
+        Ok(HeadWord::Module)
+    } else if is_word(word, b"tag") {
+        Ok(HeadWord::Tag)
+    } else {
+        Err(Code::Word)
+    }
 }
 
 /// The sizes that were set so far, and the sections so far.

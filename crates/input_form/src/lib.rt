@@ -14,11 +14,11 @@ mod words;
 
 pub use code::{Code, TextError};
 pub use forms::first_line;
-pub use head::{Head, HeadWord, Size, cpus_of, empty_head, head_line, section_form};
+pub use head::{Head, HeadWord, Size, cpus_of, empty_head, head_word};
 pub use laws::{limits_of_lines_are_these, limits_of_sizes_are_these, limits_of_words_are_these};
 pub use line_error::LineError;
 pub use places::{module_word, tag_word};
-pub use reading::{Reading, read_lines};
+pub use reading::{Body, Keyword, Reading, read_lines};
 pub use text_error::error_at;
 pub use words::{cpu_word, is_word, key_word, need, number_word, size_word};
 

@@ -6,42 +6,41 @@ use Rattle.std.proofs.lemmas.List.{map-append}
 use Rattle.std.proofs.lemmas.List.Sums.{sum_by_push}
 use Rattle.std.proofs.lemmas.Result.{IfOk-at_ok}
 use Rattle.text_form.specs.Lines.{lines_of, tail_of}
-use Rattle.text_form.specs.Words.{words_of, word_at}
+use Rattle.text_form.specs.Words.{words_of}
 use Rattle.input_form.specs.declared.code.Code.TheVariants as code
 use Rattle.input_form.specs.declared.code.TextError.{TextError}
 use Rattle.input_form.specs.declared.head.Head.{Head}
 use Rattle.input_form.specs.Forms.{first_line, AreRising}
-use Rattle.input_form.specs.Head.{cpus_of, head_line, section_form}
+use Rattle.input_form.specs.Head.{cpus_of}
 use Rattle.input_form.specs.Judging.{at, need, Reads}
-use Rattle.input_form.specs.Reading.{judged_lines}
+use Rattle.input_form.specs.Reading.{judged_lines, word_line}
 use Rattle.input_form.specs.Words.{is_word}
-use Rattle.input_form.proofs.HeadForm.{IsHead, IsBefore, AreClosed, IsHead-empty, section_form_in, head_line_in, cpus_in, area_in}
-use Rattle.input_form.proofs.Judged.{bound, given, passed, skipped, checked, weaker}
+use Rattle.input_form.proofs.HeadForm.{IsHead, IsBefore, AreClosed, IsHead-empty, cpus_in, area_in}
+use Rattle.input_form.proofs.Judged.{bound, given, skipped, checked}
 use Rattle.input_form.proofs.LineForm.{lines_in, rises_more, rises_on, rises_to}
-use Rattle.step_text.specs.declared.step_reading.StepReading.{StepReading}
+use Rattle.input_form.specs.declared.reading.Reading.{Reading}
+use Rattle.step_text.specs.declared.step_reading.StepBody.{StepBody}
 use Rattle.step_text.specs.declared.step_words.BodyWord.{BodyWord}
-use Rattle.step_text.specs.declared.step_words.BodyWord.TheVariants as body
-use Rattle.step_text.specs.declared.step_words.StepKeyword.{StepKeyword}
-use Rattle.step_text.specs.declared.step_words.StepKeyword.TheVariants as keyword
+use Rattle.step_text.specs.declared.step_words.BodyWord.TheVariants as word
 use Rattle.step_text.specs.declared.steps.StepAct.{StepAct}
 use Rattle.step_text.specs.declared.steps.StepAct.TheVariants as act
 use Rattle.step_text.specs.declared.steps.StepLine.{StepLine}
 use Rattle.step_text.specs.declared.steps.Steps.{Steps}
 use Rattle.step_text.specs.StepForm.{IsStepAct, is_printing, prints_of, numbers_of, AreSteps}
-use Rattle.step_text.specs.StepReading.{empty_reading, with_act, with_print, in_body, body_words, body_line, keyword_line, word_line, ending, steps_from, steps_of}
+use Rattle.step_text.specs.StepReading.{begun, body_words, empty_reading, steps_from, steps_of, with_act, with_print}
 use Rattle.step_text.specs.StepWords.{step_keyword}
 use Rattle.step_text.proofs.StepFormLines.{IsQuiet, do_line_in, go_line_in, words_line_in}
 
 -- what holds before the line of the number
-pub record IsReading (number : ℕ) (reading : StepReading) : Type 0 where
+pub record IsReading (number : ℕ) (reading : Reading StepBody) : Type 0 where
   pub head : IsHead reading.head
-  pub some_section : 0 < length reading.body → 0 < length reading.head.sections
-  pub acts : AllByRecursion (λ line. IsStepAct (cpus_of reading.head) reading.head.sections line.act) reading.body
-  pub lines : AreRising 2 number (numbers_of reading.body)
-  pub few_lines : length reading.body + 2 ≤ number
+  pub some_section : 0 < length reading.body.lines → 0 < length reading.head.sections
+  pub acts : AllByRecursion (λ line. IsStepAct (cpus_of reading.head) reading.head.sections line.act) reading.body.lines
+  pub lines : AreRising 2 number (numbers_of reading.body.lines)
+  pub few_lines : length reading.body.lines + 2 ≤ number
   pub within : number ≤ 131073
-  pub few_prints : prints_of reading.body ≤ reading.prints
-  pub most_prints : reading.prints ≤ 64
+  pub few_prints : prints_of reading.body.lines ≤ reading.body.prints
+  pub most_prints : reading.body.prints ≤ 64
 
 IsReading-empty : IsReading 2 empty_reading
 IsReading-empty = record {
@@ -56,12 +55,12 @@ IsReading-empty = record {
 }
 
 -- a line that says nothing
-passes : (number : ℕ) (reading : StepReading) → IsReading number reading → number ≤ 131072 → IsReading (number + 1) reading
+passes : (number : ℕ) (reading : Reading StepBody) → IsReading number reading → number ≤ 131072 → IsReading (number + 1) reading
 passes number reading is room = record {
   head = is.head;
   some_section = is.some_section;
   acts = is.acts;
-  lines = rises_on 2 number (numbers_of reading.body) is.lines;
+  lines = rises_on 2 number (numbers_of reading.body.lines) is.lines;
   few_lines = omega (arith, is.few_lines);
   within = omega arith;
   few_prints = is.few_prints;
@@ -80,12 +79,12 @@ prints_of_more : (xs : List StepLine) (y : StepLine) → prints_of (xs ++ y ∷ 
 prints_of_more xs y = sum_by_push (λ (line : StepLine). cond (is_printing line.act) 1 0) xs y
 
 -- a line that stands before the body
-before_body : (number : ℕ) (reading : StepReading) (new : Head) → IsReading number reading → number ≤ 131072 → length reading.body ≡ 0 → IsHead new → IsReading (number + 1) (record reading { head = new })
+before_body : (number : ℕ) (reading : Reading StepBody) (new : Head) → IsReading number reading → number ≤ 131072 → length reading.body.lines ≡ 0 → IsHead new → IsReading (number + 1) (record reading { head = new })
 before_body number reading new is room none formed = record {
   head = formed;
   some_section = λ some. absurd (omega arith);
-  acts = all_of_none _ reading.body none;
-  lines = rises_on 2 number (numbers_of reading.body) is.lines;
+  acts = all_of_none _ reading.body.lines none;
+  lines = rises_on 2 number (numbers_of reading.body.lines) is.lines;
   few_lines = omega (arith, is.few_lines);
   within = omega arith;
   few_prints = is.few_prints;
@@ -93,34 +92,34 @@ before_body number reading new is room none formed = record {
 }
 
 -- a body line
-module _ (number : ℕ) (reading : StepReading) (is : IsReading number reading) (room : number ≤ 131072) (some : 0 < length reading.head.sections) where
-  one_more : (a : StepAct) → length (with_act number a reading).body ≡ length reading.body + 1
-  one_more a = length-append reading.body (record { line = number; act = a } ∷ [])
+module _ (number : ℕ) (reading : Reading StepBody) (is : IsReading number reading) (room : number ≤ 131072) (some : 0 < length reading.head.sections) where
+  one_more : (a : StepAct) → length (with_act number a reading.body).lines ≡ length reading.body.lines + 1
+  one_more a = length-append reading.body.lines (record { line = number; act = a } ∷ [])
 
-  numbers_more : (a : StepAct) → numbers_of (with_act number a reading).body ≡ numbers_of reading.body ++ number ∷ []
-  numbers_more a = map-append (λ (line : StepLine). line.line) reading.body (record { line = number; act = a } ∷ [])
+  numbers_more : (a : StepAct) → numbers_of (with_act number a reading.body).lines ≡ numbers_of reading.body.lines ++ number ∷ []
+  numbers_more a = map-append (λ (line : StepLine). line.line) reading.body.lines (record { line = number; act = a } ∷ [])
 
-  quiet_more : (a : StepAct) → IsQuiet (cpus_of reading.head) reading.head.sections a → IsReading (number + 1) (with_act number a reading)
+  quiet_more : (a : StepAct) → IsQuiet (cpus_of reading.head) reading.head.sections a → IsReading (number + 1) (record reading { body = with_act number a reading.body })
   quiet_more a quiet = record {
     head = is.head;
     some_section = λ _. some;
-    acts = all_of_more _ reading.body (record { line = number; act = a }) is.acts quiet.0;
-    lines = subst (AreRising 2 (number + 1)) (sym (numbers_more a)) (rises_more 2 number (numbers_of reading.body) is.lines);
+    acts = all_of_more _ reading.body.lines (record { line = number; act = a }) is.acts quiet.0;
+    lines = subst (AreRising 2 (number + 1)) (sym (numbers_more a)) (rises_more 2 number (numbers_of reading.body.lines) is.lines);
     few_lines = omega (arith, is.few_lines, one_more a);
     within = omega arith;
-    few_prints = rw (prints_of_more reading.body (record { line = number; act = a }), quiet.1) (omega (arith, is.few_prints));
+    few_prints = rw (prints_of_more reading.body.lines (record { line = number; act = a }), quiet.1) (omega (arith, is.few_prints));
     most_prints = is.most_prints;
   }
 
-  print_more : (a : StepAct) → IsStepAct (cpus_of reading.head) reading.head.sections a → reading.prints < 64 → IsReading (number + 1) (with_print number a reading)
+  print_more : (a : StepAct) → IsStepAct (cpus_of reading.head) reading.head.sections a → reading.body.prints < 64 → IsReading (number + 1) (record reading { body = with_print number a reading.body })
   print_more a acts below = record {
     head = is.head;
     some_section = λ _. some;
-    acts = all_of_more _ reading.body (record { line = number; act = a }) is.acts acts;
-    lines = subst (AreRising 2 (number + 1)) (sym (numbers_more a)) (rises_more 2 number (numbers_of reading.body) is.lines);
+    acts = all_of_more _ reading.body.lines (record { line = number; act = a }) is.acts acts;
+    lines = subst (AreRising 2 (number + 1)) (sym (numbers_more a)) (rises_more 2 number (numbers_of reading.body.lines) is.lines);
     few_lines = omega (arith, is.few_lines, one_more a);
     within = omega arith;
-    few_prints = rw (prints_of_more reading.body (record { line = number; act = a })) (omega (arith, is.few_prints, at_most_one (is_printing a)));
+    few_prints = rw (prints_of_more reading.body.lines (record { line = number; act = a })) (omega (arith, is.few_prints, at_most_one (is_printing a)));
     most_prints = omega arith;
   }
     where
@@ -128,57 +127,40 @@ module _ (number : ℕ) (reading : StepReading) (is : IsReading number reading) 
       at_most_one true = omega arith
       at_most_one false = omega arith
 
-outside : (reading : StepReading) → in_body reading ≡ false → length reading.body ≡ 0
+outside : (reading : Reading StepBody) → begun reading.body ≡ false → length reading.body.lines ≡ 0
 outside reading out = eqb-true _ _ (not-false _ out)
 
 -- before the first section there is no body
-no_body : (number : ℕ) (reading : StepReading) → IsReading number reading → length reading.head.sections ≡ 0 → length reading.body ≡ 0
-no_body number reading is none = first (length reading.body) (λ some. is.some_section some)
+no_body : (number : ℕ) (reading : Reading StepBody) → IsReading number reading → length reading.head.sections ≡ 0 → length reading.body.lines ≡ 0
+no_body number reading is none = first (length reading.body.lines) (λ some. is.some_section some)
   where
     first : (n : ℕ) → (0 < n → 0 < length reading.head.sections) → n ≡ 0
     first zero h = refl
     first (suc n) h = absurd (omega (arith, h (omega arith)))
 
-body_words_in : (word : BodyWord) (number : ℕ) (line : List ℕ) (reading : StepReading) → IsReading number reading → number ≤ 131072 → 0 < length reading.head.sections → IfOk (body_words word number line reading) (IsReading (number + 1))
-body_words_in body.Do number line reading is room some =
-    bound (IsQuiet (cpus_of reading.head) reading.head.sections) (IsReading (number + 1)) _ (λ a. Ok (with_act number a reading)) (do_line_in (cpus_of reading.head) reading.head.sections line)
+body_words_in : (w : BodyWord) (number : ℕ) (line : List ℕ) (reading : Reading StepBody) → IsReading number reading → number ≤ 131072 → 0 < length reading.head.sections
+    → IfOk (body_words reading.head w number line reading.body) (λ body. IsReading (number + 1) (record reading { body = body }))
+body_words_in word.Do number line reading is room some =
+    bound (IsQuiet (cpus_of reading.head) reading.head.sections) (λ body. IsReading (number + 1) (record reading { body = body })) _ (λ a. Ok (with_act number a reading.body)) (do_line_in (cpus_of reading.head) reading.head.sections line)
     (λ a quiet. quiet_more number reading is room some a quiet)
-body_words_in body.Go number line reading is room some =
-    bound (IsQuiet (cpus_of reading.head) reading.head.sections) (IsReading (number + 1)) _ (λ a. Ok (with_act number a reading)) (go_line_in (cpus_of reading.head) reading.head.sections line)
+body_words_in word.Go number line reading is room some =
+    bound (IsQuiet (cpus_of reading.head) reading.head.sections) (λ body. IsReading (number + 1) (record reading { body = body })) _ (λ a. Ok (with_act number a reading.body)) (go_line_in (cpus_of reading.head) reading.head.sections line)
     (λ a quiet. quiet_more number reading is room some a quiet)
-body_words_in body.Print number line reading is room some =
-    checked (IsReading (number + 1)) (eqb (length (words_of line)) 1) code.Word _
-    (λ _. checked (IsReading (number + 1)) (ltb reading.prints 64) code.Prints _
+body_words_in word.Print number line reading is room some =
+    checked (λ body. IsReading (number + 1) (record reading { body = body })) (eqb (length (words_of line)) 1) code.Word _
+    (λ _. checked (λ body. IsReading (number + 1) (record reading { body = body })) (ltb reading.body.prints 64) code.Prints _
     (λ below. print_more number reading is room some act.Print tt (ltb-true _ _ below)))
-body_words_in body.Words number line reading is room some =
-    bound (IsStepAct (cpus_of reading.head) reading.head.sections) (IsReading (number + 1)) _ _ (words_line_in (cpus_of reading.head) reading.head.sections line)
-    (λ a acts. checked (IsReading (number + 1)) (ltb reading.prints 64) code.Prints (Ok (with_print number a reading))
+body_words_in word.Words number line reading is room some =
+    bound (IsStepAct (cpus_of reading.head) reading.head.sections) (λ body. IsReading (number + 1) (record reading { body = body })) _ _ (words_line_in (cpus_of reading.head) reading.head.sections line)
+    (λ a acts. checked (λ body. IsReading (number + 1) (record reading { body = body })) (ltb reading.body.prints 64) code.Prints (Ok (with_print number a reading.body))
     (λ below. print_more number reading is room some a acts (ltb-true _ _ below)))
 
-body_line_in : (word : BodyWord) (number : ℕ) (line : List ℕ) (reading : StepReading) → IsReading number reading → number ≤ 131072 → IfOk (body_line word number line reading) (IsReading (number + 1))
-unfolding body_line
-body_line_in word number line reading is room =
-    passed {Q = AreClosed reading.head.sections} (IsReading (number + 1)) (section_form reading.head.sections) _ (section_form_in reading.head.sections is.head.open_sections)
-    (λ closed. body_words_in word number line reading is room closed.0)
-
 -- nothing stands in the body where a line may still stand before it
-none_yet : (number : ℕ) (reading : StepReading) → IsReading number reading → IsBefore (in_body reading) reading.head → length reading.body ≡ 0
+none_yet : (number : ℕ) (reading : Reading StepBody) → IsReading number reading → IsBefore (begun reading.body) reading.head → length reading.body.lines ≡ 0
 none_yet number reading is before = ⊎_elim (λ none. no_body number reading is none) (λ out. outside reading out) before
 
-keyword_line_in : (k : StepKeyword) (number : ℕ) (line : List ℕ) (reading : StepReading) → IsReading number reading → number ≤ 131072 → IfOk (keyword_line k number line reading) (IsReading (number + 1))
-keyword_line_in (keyword.Head which) number line reading is room =
-    bound (λ (new : Head). IsHead new × IsBefore (in_body reading) reading.head) (IsReading (number + 1)) (head_line which (in_body reading) line reading.head) (λ new. Ok (record reading { head = new })) (head_line_in which (in_body reading) line reading.head is.head)
-    (λ new h. before_body number reading new is room (none_yet number reading is h.1) h.0)
-keyword_line_in (keyword.Body word) number line reading is room = body_line_in word number line reading is room
-
-word_line_in : (number : ℕ) (line : List ℕ) (reading : StepReading) → IsReading number reading → number ≤ 131072 → IfOk (word_line number line reading) (IsReading (number + 1))
-unfolding word_line
-word_line_in number line reading is room =
-    given (IsReading (number + 1)) (step_keyword (word_at line 0)) (λ k. keyword_line k number line reading)
-    (λ k. keyword_line_in k number line reading is room)
-
 -- at the end of the lines
-ended : (number : ℕ) (reading : StepReading) → IsReading number reading → AreClosed reading.head.sections → AreSteps (steps_from reading)
+ended : (number : ℕ) (reading : Reading StepBody) → IsReading number reading → AreClosed reading.head.sections → AreSteps (steps_from reading)
 ended number reading is closed = record {
   some_cpu = (cpus_in reading.head is.head).0;
   few_cpus = (cpus_in reading.head is.head).1;
@@ -187,16 +169,16 @@ ended number reading is closed = record {
   sections = is.head.open_sections.are;
   tagged = closed.1;
   acts = is.acts;
-  lines = rises_to 2 number 131073 (numbers_of reading.body) is.within is.lines;
+  lines = rises_to 2 number 131073 (numbers_of reading.body.lines) is.within is.lines;
   few_lines = omega (arith, is.few_lines, is.within);
   few_prints = omega (arith, is.few_prints, is.most_prints);
 }
 
-ending_in : (number : ℕ) (reading : StepReading) → IsReading number reading → IfOk (ending reading) (λ _. AreSteps (steps_from reading))
-ending_in number reading is = weaker (λ _. AreClosed reading.head.sections) (λ _. AreSteps (steps_from reading)) (section_form reading.head.sections) (λ _ closed. ended number reading is closed) (section_form_in reading.head.sections is.head.open_sections)
-
-all_in : (lines : List (List ℕ)) (tail : List ℕ) → IfOk (judged_lines word_line ending 2 lines tail empty_reading) (λ r. AreSteps (steps_from r))
-all_in lines tail = lines_in word_line ending IsReading (λ r. AreSteps (steps_from r)) passes word_line_in ending_in 2 lines tail empty_reading IsReading-empty
+all_in : (lines : List (List ℕ)) (tail : List ℕ) → IfOk (judged_lines (word_line step_keyword begun body_words) 2 lines tail empty_reading) (λ r. AreSteps (steps_from r))
+all_in lines tail =
+    lines_in step_keyword begun body_words IsReading (λ r. AreSteps (steps_from r)) (λ number reading is. is.head) passes
+    (λ number reading new is room before formed. before_body number reading new is room (none_yet number reading is before) formed)
+    body_words_in ended 2 lines tail empty_reading IsReading-empty
 
 -- a schedule that a text spells is well formed
 pub steps_of_formed : (text : List ℕ) (s : Steps) → steps_of text ≡ Ok s → AreSteps s

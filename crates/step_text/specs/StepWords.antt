@@ -2,27 +2,24 @@
 use Rattle.std.specs.Prelude.{ℕ, List, Result, codes, if◌then◌else◌, Ok, Err}
 use Rattle.input_form.specs.declared.code.Code.{Code}
 use Rattle.input_form.specs.declared.code.Code.TheVariants.{Word}
-use Rattle.input_form.specs.declared.head.HeadWord.TheVariants as head
-use Rattle.input_form.specs.declared.head.Size.TheVariants as size
+use Rattle.input_form.specs.declared.reading.Keyword.{Keyword}
+use Rattle.input_form.specs.declared.reading.Keyword.TheVariants as keyword
+use Rattle.step_text.specs.declared.step_words.BodyWord.{BodyWord}
 use Rattle.step_text.specs.declared.step_words.BodyWord.TheVariants as body
-use Rattle.step_text.specs.declared.step_words.StepKeyword.{StepKeyword}
-use Rattle.step_text.specs.declared.step_words.StepKeyword.TheVariants as keyword
 use Rattle.step_text.specs.declared.step_words.OpName.{OpName}
 use Rattle.step_text.specs.declared.step_words.OpName.TheVariants as op
+use Rattle.input_form.specs.Head.{head_word}
+use Rattle.input_form.specs.Judging.{◌>>=◌}
 use Rattle.input_form.specs.Words.{is_word}
 
-unfoldable pub step_keyword : List ℕ → Result StepKeyword Code
+unfoldable pub step_keyword : List ℕ → Result (Keyword BodyWord) Code
 step_keyword word =
     if is_word (codes "do") word then Ok (keyword.Body body.Do) else
     if is_word (codes "go") word then Ok (keyword.Body body.Go) else
     if is_word (codes "print") word then Ok (keyword.Body body.Print) else
-    if is_word (codes "words") word then Ok (keyword.Body body.Words) else
-    if is_word (codes "cpus") word then Ok (keyword.Head (head.Size size.Cpus)) else
-    if is_word (codes "area") word then Ok (keyword.Head (head.Size size.Area)) else
-    if is_word (codes "kernel") word then Ok (keyword.Head head.Kernel) else
-    if is_word (codes "module") word then Ok (keyword.Head head.Module) else
-    if is_word (codes "tag") word then Ok (keyword.Head head.Tag) else
-    Err Word
+    if is_word (codes "words") word then Ok (keyword.Body body.Words) else do
+      which ← head_word word
+      Ok (keyword.Head which)
 
 unfoldable pub op_name : List ℕ → Result OpName Code
 op_name word =

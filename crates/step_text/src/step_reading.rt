@@ -2,16 +2,17 @@
 
 ghost use Rattle.std.specs.Prelude.{◌≡◌, ◌<◌, IfOk, OnOk};
 ghost use Rattle.text_form.specs.Lines.{FitsInput};
-ghost use Rattle.input_form.specs.Judging.{Leaves, Reads};
+ghost use Rattle.input_form.specs.Judging.{Reads};
 ghost use Rattle.step_text.specs.StepForm.{AreSteps};
-ghost use Rattle.step_text.specs.StepReading.{body_line, empty_reading, ending, in_body, steps_from, steps_of, word_line, with_act, with_print};
+ghost use Rattle.step_text.specs.StepReading.{begun, body_words, empty_reading, steps_from, steps_of, with_act, with_print};
+ghost use Rattle.step_text.specs.StepWords.{step_keyword};
 
 use crate::step_lines::{do_line, go_line, words_line};
-use crate::step_words::{BodyWord, StepKeyword, step_keyword};
+use crate::step_words::{BodyWord, step_keyword};
 use crate::steps::{StepAct, StepLine, StepLines, Steps};
 use input_form::{
-    Code, Head, LineError, Reading, TextError, cpus_of, empty_head, first_line, head_line, is_word,
-    need, read_lines, section_form,
+    Body, Code, Head, Keyword, LineError, Reading, TextError, cpus_of, empty_head, first_line,
+    is_word, need, read_lines,
 };
 use std::alloc::{AllocError, Global};
 use text_form::LineWords;
@@ -19,106 +20,88 @@ use text_form::LineWords;
 /// The most lines that print.
 const PRINT_LIMIT: u32 = 64;
 
-/// What the lines so far say.
+/// The body so far.
 #[derive(Debug, Drop)]
-pub(crate) struct StepReading {
-    head: Head,
-    body: StepLines,
+pub(crate) struct StepBody {
+    lines: StepLines,
     prints: u32,
 }
 
-fn empty_reading(alloc: Global) -> StepReading
+fn empty_reading(alloc: Global) -> Reading<StepBody>
     ensures { result ≡ empty_reading }
 {
-    StepReading {
+    Reading {
         head: empty_head(alloc),
-        body: StepLines::new(alloc),
-        prints: 0,
+        body: StepBody {
+            lines: StepLines::new(alloc),
+            prints: 0,
+        },
     }
 }
 
-fn in_body(reading: &StepReading) -> bool
-    ensures { result ≡ in_body reading.now }
-{
-    !reading.body.is_empty()
-}
+impl StepBody {
+    fn with_act(&mut self, line: u32, act: StepAct) -> Result<(), AllocError>
+        ensures { OnOk result (self.new ≡ with_act line act self.old) }
+    {
+        self.lines.push(StepLine { line, act })
+    }
 
-fn with_act(reading: &mut StepReading, line: u32, act: StepAct) -> Result<(), AllocError>
-    ensures { OnOk result (reading.new ≡ with_act line act reading.old) }
-{
-    reading.body.push(StepLine { line, act })
-}
-
-fn with_print(reading: &mut StepReading, line: u32, act: StepAct) -> Result<(), AllocError>
-    requires { reading.old.prints < 64 }
-    ensures { OnOk result (reading.new ≡ with_print line act reading.old) }
-{
-    reading.body.push(StepLine { line, act })?;
-    reading.prints += 1;
-    Ok(())
-}
-
-// A body line, by its first word.
-#[tactic(auto, unfolding(crate::specs::StepReading::body_line))]
-fn body_line(
-    reading: &mut StepReading,
-    word: BodyWord,
-    number: u32,
-    line: &LineWords<'_>,
-) -> Result<(), LineError>
-    ensures { Leaves result reading.new (body_line word number line.now reading.old) }
-{
-    section_form(&reading.head.sections)?;
-    match word {
-        BodyWord::Do => {
-            let act = do_line(cpus_of(&reading.head), &reading.head.sections, line)?;
-            with_act(reading, number, act)?;
-            Ok(())
-        }
-        BodyWord::Go => {
-            let act = go_line(cpus_of(&reading.head), line)?;
-            with_act(reading, number, act)?;
-            Ok(())
-        }
-        BodyWord::Print => {
-            need(line.count() == 1, Code::Word)?;
-            need(reading.prints < PRINT_LIMIT, Code::Prints)?;
-            with_print(reading, number, StepAct::Print)?;
-            Ok(())
-        }
-        BodyWord::Words => {
-            let act = words_line(&reading.head.sections, line)?;
-            need(reading.prints < PRINT_LIMIT, Code::Prints)?;
-            with_print(reading, number, act)?;
-            Ok(())
-        }
+    fn with_print(&mut self, line: u32, act: StepAct) -> Result<(), AllocError>
+        requires { self.old.prints < 64 }
+        ensures { OnOk result (self.new ≡ with_print line act self.old) }
+    {
+        self.lines.push(StepLine { line, act })?;
+        self.prints += 1;
+        Ok(())
     }
 }
 
-impl Reading for StepReading {
-    ghost says = { word_line };
+impl Body for StepBody {
+    type Word = BodyWord;
 
-    ghost ends = { ending };
+    ghost keywords = { step_keyword };
 
-    #[tactic(auto, unfolding(crate::specs::StepReading::word_line))]
+    ghost begun = { begun };
+
+    ghost says = { body_words };
+
+    fn keyword(word: &[u8]) -> Result<Keyword<BodyWord>, Code> {
+        step_keyword(word)
+    }
+
+    fn has_begun(&self) -> bool {
+        !self.lines.is_empty()
+    }
+
     fn read_line(
         &mut self,
-        alloc: Global,
+        _alloc: Global,
+        head: &Head,
+        word: BodyWord,
         number: u32,
         line: &LineWords<'_>,
     ) -> Result<(), LineError> {
-        let keyword = step_keyword(line.at(0))?;
-        match keyword {
-            StepKeyword::Head(which) => {
-                let in_body = in_body(self);
-                head_line(alloc, &mut self.head, which, in_body, line)
+        match word {
+            BodyWord::Do => {
+                let act = do_line(cpus_of(head), &head.sections, line)?;
+                self.with_act(number, act)?;
             }
-            StepKeyword::Body(word) => body_line(self, word, number, line),
+            BodyWord::Go => {
+                let act = go_line(cpus_of(head), line)?;
+                self.with_act(number, act)?;
+            }
+            BodyWord::Print => {
+                need(line.count() == 1, Code::Word)?;
+                need(self.prints < PRINT_LIMIT, Code::Prints)?;
+                self.with_print(number, StepAct::Print)?;
+            }
+            BodyWord::Words => {
+                let act = words_line(&head.sections, line)?;
+                need(self.prints < PRINT_LIMIT, Code::Prints)?;
+                self.with_print(number, act)?;
+            }
         }
-    }
-
-    fn end(&self) -> Result<(), Code> {
-        section_form(&self.head.sections)
+        Ok(())
     }
 }
 
@@ -143,7 +126,7 @@ fn whole_schedule(alloc: Global, text: &[u8]) -> Result<Steps, TextError>
         cpus: cpus_of(&reading.head),
         area: reading.head.area.unwrap_or(896),
         sections: reading.head.sections,
-        body: reading.body,
+        body: reading.body.lines,
     })
 }
 

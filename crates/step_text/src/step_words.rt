@@ -3,14 +3,7 @@
 ghost use Rattle.std.specs.Prelude.{◌≡◌};
 ghost use Rattle.step_text.specs.StepWords.{step_keyword, op_name};
 
-use input_form::{Code, HeadWord, Size, is_word};
-
-/// The first word of a line.
-#[derive(Clone, Copy, Debug, PartialEq, Eq)]
-pub(crate) enum StepKeyword {
-    Head(HeadWord),
-    Body(BodyWord),
-}
+use input_form::{Code, Keyword, head_word, is_word};
 
 /// The first word of a body line.
 #[derive(Clone, Copy, Debug, PartialEq, Eq)]
@@ -37,29 +30,19 @@ pub(crate) enum OpName {
 }
 
 #[tactic(auto, unfolding(crate::specs::StepWords::step_keyword))]
-pub(crate) fn step_keyword(word: &[u8]) -> Result<StepKeyword, Code>
+pub(crate) fn step_keyword(word: &[u8]) -> Result<Keyword<BodyWord>, Code>
     ensures { result ≡ step_keyword word.now }
 {
     if is_word(word, b"do") {
-        Ok(StepKeyword::Body(BodyWord::Do))
+        Ok(Keyword::Body(BodyWord::Do))
     } else if is_word(word, b"go") {
-        Ok(StepKeyword::Body(BodyWord::Go))
+        Ok(Keyword::Body(BodyWord::Go))
     } else if is_word(word, b"print") {
-        Ok(StepKeyword::Body(BodyWord::Print))
+        Ok(Keyword::Body(BodyWord::Print))
     } else if is_word(word, b"words") {
-        Ok(StepKeyword::Body(BodyWord::Words))
-    } else if is_word(word, b"cpus") {
-        Ok(StepKeyword::Head(HeadWord::Size(Size::Cpus)))
-    } else if is_word(word, b"area") {
-        Ok(StepKeyword::Head(HeadWord::Size(Size::Area)))
-    } else if is_word(word, b"kernel") {
-        Ok(StepKeyword::Head(HeadWord::Kernel))
-    } else if is_word(word, b"module") {
-        Ok(StepKeyword::Head(HeadWord::Module))
-    } else if is_word(word, b"tag") {
-        Ok(StepKeyword::Head(HeadWord::Tag))
+        Ok(Keyword::Body(BodyWord::Words))
     } else {
-        Err(Code::Word)
+        Ok(Keyword::Head(head_word(word)?))
     }
 }
 

@@ -4,28 +4,27 @@ use Rattle.input_form.specs.declared.code.Code.{Code}
 use Rattle.input_form.specs.declared.code.Code.TheVariants.{Word}
 use Rattle.input_form.specs.declared.head.HeadWord.TheVariants as head
 use Rattle.input_form.specs.declared.head.Size.TheVariants as size
+use Rattle.input_form.specs.declared.reading.Keyword.{Keyword}
+use Rattle.input_form.specs.declared.reading.Keyword.TheVariants as keyword
+use Rattle.trace.specs.declared.trace_words.BodyWord.{BodyWord}
 use Rattle.trace.specs.declared.trace_words.BodyWord.TheVariants as body
-use Rattle.trace.specs.declared.trace_words.TraceKeyword.{TraceKeyword}
-use Rattle.trace.specs.declared.trace_words.TraceKeyword.TheVariants as keyword
 use Rattle.trace.specs.declared.trace_words.OnName.{OnName}
 use Rattle.trace.specs.declared.trace_words.OnName.TheVariants as name
+use Rattle.input_form.specs.Head.{head_word}
+use Rattle.input_form.specs.Judging.{◌>>=◌}
 use Rattle.input_form.specs.Words.{is_word}
 
-unfoldable pub trace_keyword : List ℕ → Result TraceKeyword Code
+unfoldable pub trace_keyword : List ℕ → Result (Keyword BodyWord) Code
 trace_keyword word =
     if is_word (codes "on") word then Ok (keyword.Body body.On) else
     if is_word (codes "round") word then Ok (keyword.Body body.Round) else
     if is_word (codes "load") word then Ok (keyword.Body body.Load) else
     if is_word (codes "print") word then Ok (keyword.Body body.Print) else
     if is_word (codes "areas") word then Ok (keyword.Body body.Areas) else
-    if is_word (codes "cpus") word then Ok (keyword.Head (head.Size size.Cpus)) else
-    if is_word (codes "area") word then Ok (keyword.Head (head.Size size.Area)) else
     if is_word (codes "frames") word then Ok (keyword.Head (head.Size size.Frames)) else
-    if is_word (codes "vectors") word then Ok (keyword.Head (head.Size size.Vectors)) else
-    if is_word (codes "kernel") word then Ok (keyword.Head head.Kernel) else
-    if is_word (codes "module") word then Ok (keyword.Head head.Module) else
-    if is_word (codes "tag") word then Ok (keyword.Head head.Tag) else
-    Err Word
+    if is_word (codes "vectors") word then Ok (keyword.Head (head.Size size.Vectors)) else do
+      which ← head_word word
+      Ok (keyword.Head which)
 
 unfoldable pub on_name : List ℕ → Result OnName Code
 on_name word =

@@ -4,15 +4,15 @@ ghost use Rattle.std.specs.Prelude.{◌≡◌, ◌<◌, IfOk, OnOk};
 ghost use Rattle.text_form.specs.Lines.{FitsInput};
 ghost use Rattle.trace.specs.Formed.{IsFormedTrace};
 ghost use Rattle.input_form.specs.Judging.{Leaves, Reads};
-ghost use Rattle.trace.specs.declared.trace_words.BodyWord.TheVariants.{Load};
-ghost use Rattle.trace.specs.TraceReading.{body_line, body_words, empty_reading, ending, closed, in_body, print_line, trace_header, trace_from, trace_of, with_item, with_op, with_print, with_round, word_line};
+ghost use Rattle.trace.specs.TraceReading.{begun, body_words, empty_reading, closed, print_line, trace_header, trace_from, trace_of, with_item, with_op, with_print, with_round};
+ghost use Rattle.trace.specs.TraceWords.{trace_keyword};
 
 use crate::trace_lines::on_line;
-use crate::trace_words::{BodyWord, TraceKeyword, trace_keyword};
+use crate::trace_words::{BodyWord, trace_keyword};
 use crate::traces::{Item, Items, OnOp, OnOps, Trace};
 use input_form::{
-    Code, Head, LineError, Reading, TextError, cpus_of, empty_head, first_line, head_line, is_word,
-    module_word, need, read_lines, section_form,
+    Body, Code, Head, Keyword, LineError, Reading, TextError, cpus_of, empty_head, first_line,
+    is_word, module_word, need, read_lines,
 };
 use std::alloc::{AllocError, Global};
 use text_form::LineWords;
@@ -20,30 +20,25 @@ use text_form::LineWords;
 /// The most lines that print.
 const PRINT_LIMIT: u32 = 64;
 
-/// What the lines so far say. A round that is open is not yet among the items.
+/// The body so far. A round that is open is not yet among the items.
 #[derive(Debug, Drop)]
-pub(crate) struct TraceReading {
-    head: Head,
+pub(crate) struct TraceBody {
     items: Items,
     round: Option<OnOps>,
     prints: u32,
 }
 
-fn empty_reading(alloc: Global) -> TraceReading
+fn empty_reading(alloc: Global) -> Reading<TraceBody>
     ensures { result ≡ empty_reading }
 {
-    TraceReading {
+    Reading {
         head: empty_head(alloc),
-        items: Items::new(alloc),
-        round: None,
-        prints: 0,
+        body: TraceBody {
+            items: Items::new(alloc),
+            round: None,
+            prints: 0,
+        },
     }
-}
-
-fn in_body(reading: &TraceReading) -> bool
-    ensures { result ≡ in_body reading.now }
-{
-    !reading.items.is_empty() || reading.round.is_some()
 }
 
 // The round that is open ends.
@@ -56,115 +51,96 @@ fn close(items: &mut Items, round: Option<OnOps>) -> Result<(), AllocError>
     }
 }
 
-fn with_item(reading: &mut TraceReading, item: Item) -> Result<(), AllocError>
-    ensures { OnOk result (reading.new ≡ with_item item reading.old) }
-{
-    close(&mut reading.items, reading.round.take())?;
-    reading.items.push(item)
-}
+impl TraceBody {
+    fn with_item(&mut self, item: Item) -> Result<(), AllocError>
+        ensures { OnOk result (self.new ≡ with_item item self.old) }
+    {
+        close(&mut self.items, self.round.take())?;
+        self.items.push(item)
+    }
 
-fn with_print(reading: &mut TraceReading, item: Item) -> Result<(), AllocError>
-    requires { reading.old.prints < 64 }
-    ensures { OnOk result (reading.new ≡ with_print item reading.old) }
-{
-    with_item(reading, item)?;
-    reading.prints += 1;
-    Ok(())
-}
+    fn with_print(&mut self, item: Item) -> Result<(), AllocError>
+        requires { self.old.prints < 64 }
+        ensures { OnOk result (self.new ≡ with_print item self.old) }
+    {
+        self.with_item(item)?;
+        self.prints += 1;
+        Ok(())
+    }
 
-fn with_round(alloc: Global, reading: &mut TraceReading) -> Result<(), AllocError>
-    ensures { OnOk result (reading.new ≡ with_round reading.old) }
-{
-    close(&mut reading.items, reading.round.take())?;
-    reading.round = Some(OnOps::new(alloc));
-    Ok(())
-}
+    fn with_round(&mut self, alloc: Global) -> Result<(), AllocError>
+        ensures { OnOk result (self.new ≡ with_round self.old) }
+    {
+        close(&mut self.items, self.round.take())?;
+        self.round = Some(OnOps::new(alloc));
+        Ok(())
+    }
 
-fn with_op(reading: &mut TraceReading, op: OnOp) -> Result<(), AllocError>
-    ensures { OnOk result (reading.new ≡ with_op op reading.old) }
-{
-    match &mut reading.round {
-        None => Ok(()),
-        Some(ops) => ops.push(op),
+    fn with_op(&mut self, op: OnOp) -> Result<(), AllocError>
+        ensures { OnOk result (self.new ≡ with_op op self.old) }
+    {
+        match &mut self.round {
+            None => Ok(()),
+            Some(ops) => ops.push(op),
+        }
+    }
+
+    // `print` and `areas`
+    #[tactic(auto, unfolding(crate::specs::TraceReading::print_line))]
+    fn print_line(&mut self, item: Item, line: &LineWords<'_>) -> Result<(), LineError>
+        ensures { Leaves result self.new (print_line item line.now self.old) }
+    {
+        need(line.count() == 1, Code::Word)?;
+        need(self.prints < PRINT_LIMIT, Code::Prints)?;
+        self.with_print(item)?;
+        Ok(())
     }
 }
 
-// `print` and `areas`
-#[tactic(auto, unfolding(crate::specs::TraceReading::print_line))]
-fn print_line(reading: &mut TraceReading, item: Item, line: &LineWords<'_>) -> Result<(), LineError>
-    ensures { Leaves result reading.new (print_line item line.now reading.old) }
-{
-    need(line.count() == 1, Code::Word)?;
-    need(reading.prints < PRINT_LIMIT, Code::Prints)?;
-    with_print(reading, item)?;
-    Ok(())
-}
+impl Body for TraceBody {
+    type Word = BodyWord;
 
-// `load MODULE`
-fn load_line(reading: &mut TraceReading, number: u32, line: &LineWords<'_>) -> Result<(), LineError>
-    ensures { Leaves result reading.new (body_words Load number line.now reading.old) }
-{
-    need(line.count() == 2, Code::Word)?;
-    let section = module_word(&reading.head.sections, line.at(1))?;
-    let line = number;
-    with_item(reading, Item::Load { line, section })?;
-    Ok(())
-}
+    ghost keywords = { trace_keyword };
 
-// A body line, by its first word.
-#[tactic(auto, unfolding(crate::specs::TraceReading::body_line, crate::specs::TraceReading::print_line))]
-fn body_line(
-    alloc: Global,
-    reading: &mut TraceReading,
-    word: BodyWord,
-    number: u32,
-    line: &LineWords<'_>,
-) -> Result<(), LineError>
-    ensures { Leaves result reading.new (body_line word number line.now reading.old) }
-{
-    section_form(&reading.head.sections)?;
-    match word {
-        BodyWord::On => {
-            need(reading.round.is_some(), Code::NoRound)?;
-            let op = on_line(cpus_of(&reading.head), &reading.head.sections, number, line)?;
-            with_op(reading, op)?;
-            Ok(())
-        }
-        BodyWord::Round => {
-            need(line.count() == 1, Code::Word)?;
-            with_round(alloc, reading)?;
-            Ok(())
-        }
-        BodyWord::Load => load_line(reading, number, line),
-        BodyWord::Print => print_line(reading, Item::Print, line),
-        BodyWord::Areas => print_line(reading, Item::Areas, line),
+    ghost begun = { begun };
+
+    ghost says = { body_words };
+
+    fn keyword(word: &[u8]) -> Result<Keyword<BodyWord>, Code> {
+        trace_keyword(word)
     }
-}
 
-impl Reading for TraceReading {
-    ghost says = { word_line };
+    fn has_begun(&self) -> bool {
+        !self.items.is_empty() || self.round.is_some()
+    }
 
-    ghost ends = { ending };
-
-    #[tactic(auto, unfolding(crate::specs::TraceReading::word_line))]
     fn read_line(
         &mut self,
         alloc: Global,
-        number: u32,
-        line: &LineWords<'_>,
+        head: &Head,
+        word: BodyWord,
+        line: u32,
+        words: &LineWords<'_>,
     ) -> Result<(), LineError> {
-        let keyword = trace_keyword(line.at(0))?;
-        match keyword {
-            TraceKeyword::Head(which) => {
-                let in_body = in_body(self);
-                head_line(alloc, &mut self.head, which, in_body, line)
+        match word {
+            BodyWord::On => {
+                need(self.round.is_some(), Code::NoRound)?;
+                let op = on_line(cpus_of(head), &head.sections, line, words)?;
+                self.with_op(op)?;
             }
-            TraceKeyword::Body(word) => body_line(alloc, self, word, number, line),
+            BodyWord::Round => {
+                need(words.count() == 1, Code::Word)?;
+                self.with_round(alloc)?;
+            }
+            BodyWord::Load => {
+                need(words.count() == 2, Code::Word)?;
+                let section = module_word(&head.sections, words.at(1))?;
+                self.with_item(Item::Load { line, section })?;
+            }
+            BodyWord::Print => self.print_line(Item::Print, words)?,
+            BodyWord::Areas => self.print_line(Item::Areas, words)?,
         }
-    }
-
-    fn end(&self) -> Result<(), Code> {
-        section_form(&self.head.sections)
+        Ok(())
     }
 }
 
@@ -182,11 +158,11 @@ fn trace_header(line: &[u8]) -> Result<bool, Code>
     }
 }
 
-fn trace_from(shows_kept: bool, reading: TraceReading) -> Result<Trace, AllocError>
+fn trace_from(shows_kept: bool, reading: Reading<TraceBody>) -> Result<Trace, AllocError>
     ensures { IfOk result (λ trace. trace ≡ trace_from shows_kept reading) }
 {
-    let mut body = reading.items;
-    close(&mut body, reading.round)?;
+    let mut body = reading.body.items;
+    close(&mut body, reading.body.round)?;
     Ok(Trace {
         shows_kept,
         cpus: cpus_of(&reading.head),

@@ -3,14 +3,7 @@
 ghost use Rattle.std.specs.Prelude.{◌≡◌};
 ghost use Rattle.trace.specs.TraceWords.{trace_keyword, on_name};
 
-use input_form::{Code, HeadWord, Size, is_word};
-
-/// The first word of a line.
-#[derive(Clone, Copy, Debug, PartialEq, Eq)]
-pub(crate) enum TraceKeyword {
-    Head(HeadWord),
-    Body(BodyWord),
-}
+use input_form::{Code, HeadWord, Keyword, Size, head_word, is_word};
 
 /// The first word of a body line.
 #[derive(Clone, Copy, Debug, PartialEq, Eq)]
@@ -39,35 +32,25 @@ pub(crate) enum OnName {
 }
 
 #[tactic(auto, unfolding(crate::specs::TraceWords::trace_keyword))]
-pub(crate) fn trace_keyword(word: &[u8]) -> Result<TraceKeyword, Code>
+pub(crate) fn trace_keyword(word: &[u8]) -> Result<Keyword<BodyWord>, Code>
     ensures { result ≡ trace_keyword word.now }
 {
     if is_word(word, b"on") {
-        Ok(TraceKeyword::Body(BodyWord::On))
+        Ok(Keyword::Body(BodyWord::On))
     } else if is_word(word, b"round") {
-        Ok(TraceKeyword::Body(BodyWord::Round))
+        Ok(Keyword::Body(BodyWord::Round))
     } else if is_word(word, b"load") {
-        Ok(TraceKeyword::Body(BodyWord::Load))
+        Ok(Keyword::Body(BodyWord::Load))
     } else if is_word(word, b"print") {
-        Ok(TraceKeyword::Body(BodyWord::Print))
+        Ok(Keyword::Body(BodyWord::Print))
     } else if is_word(word, b"areas") {
-        Ok(TraceKeyword::Body(BodyWord::Areas))
-    } else if is_word(word, b"cpus") {
-        Ok(TraceKeyword::Head(HeadWord::Size(Size::Cpus)))
-    } else if is_word(word, b"area") {
-        Ok(TraceKeyword::Head(HeadWord::Size(Size::Area)))
+        Ok(Keyword::Body(BodyWord::Areas))
     } else if is_word(word, b"frames") {
-        Ok(TraceKeyword::Head(HeadWord::Size(Size::Frames)))
+        Ok(Keyword::Head(HeadWord::Size(Size::Frames)))
     } else if is_word(word, b"vectors") {
-        Ok(TraceKeyword::Head(HeadWord::Size(Size::Vectors)))
-    } else if is_word(word, b"kernel") {
-        Ok(TraceKeyword::Head(HeadWord::Kernel))
-    } else if is_word(word, b"module") {
-        Ok(TraceKeyword::Head(HeadWord::Module))
-    } else if is_word(word, b"tag") {
-        Ok(TraceKeyword::Head(HeadWord::Tag))
+        Ok(Keyword::Head(HeadWord::Size(Size::Vectors)))
     } else {
-        Err(Code::Word)
+        Ok(Keyword::Head(head_word(word)?))
     }
 }
 
