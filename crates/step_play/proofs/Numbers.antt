@@ -4,12 +4,11 @@ use Rattle.std.proofs.Math.Seq.{take-suc}
 use Rattle.std.proofs.lemmas.Grind.{flat_map-append}
 use Rattle.std.specs.List.{find, flat_map}
 use Rattle.std.specs.Option.{option_map}
-use Rattle.tag_section.specs.Section.{Section}
+use Rattle.tag_section.specs.Section.{Section, tags_in}
 use Rattle.module_area.specs.declared.entry.Entry.{Entry}
 use Rattle.module_area.specs.Area.{Area, IsBook, LiesIn}
 use Rattle.module_area.specs.Entries.{is_loaded_as, entry_of, id_loaded}
 use Rattle.module_area.proofs.EntryLemmas.{find_some}
-use Rattle.cpu_ops.specs.MayQueue.{section_len}
 use Rattle.core_steps.specs.CoreState.{EntryFits}
 use Rattle.cpu_ops.proofs.LoadedEntry.{entry_is_found, loaded_at}
 use Rattle.core_list.proofs.Split.{entry_holds}
@@ -35,12 +34,12 @@ loaded_as area section id e book is listed = go (find (is_loaded_as section) are
         subst (LoadedAs area section) same (record { found = found; by_id = here; of_section = of })
 
 -- its number is one of the shape
-pub number_below : (area : Area) (sections : List Section) (section index tags : ℕ) (e : Entry) → IsBook area → All (EntryFits sections) area.entries → area.first + area.tags ≡ tags → LoadedAs area section e → index < section_len sections section
+pub number_below : (area : Area) (sections : List Section) (section index tags : ℕ) (e : Entry) → IsBook area → All (EntryFits sections) area.entries → area.first + area.tags ≡ tags → LoadedAs area section e → index < tags_in sections section
     → e.start + index < tags
 number_below area sections section index tags e book fit within is below =
     let fits = entry_holds (EntryFits sections) area.entries e.id e fit is.by_id in
     let lies = entry_holds (λ (x : Entry). LiesIn area x.start x.length) area.entries e.id e book.in_area is.by_id in
-    let same : section_len sections e.section ≡ section_len sections section = ap (section_len sections) is.of_section in
+    let same : tags_in sections e.section ≡ tags_in sections section = ap (tags_in sections) is.of_section in
     omega (arith, lies.1, fits.all_tags)
 
 -- an entry more

@@ -25,7 +25,6 @@ use Rattle.core_steps.proofs.Left.{left_after, left_none}
 use Rattle.core_steps.proofs.ManagerLeft.{manager_idle, manager_left}
 use Rattle.core_steps.proofs.ManagerRow.{manager_row}
 use Rattle.tag_model.specs.StepRules.{StepsWith}
-use Rattle.core_steps.proofs.ManagerCore.{manager_core}
 use Rattle.core_steps.proofs.ManagerRelease.{manager_releases}
 use Rattle.core_steps.proofs.Meaning.{core_of_fresh, moved_after, managed_after}
 use Rattle.core_steps.proofs.Queued.{core_queued}
@@ -46,6 +45,7 @@ use Rattle.step_play.specs.Schedule.{Played, core_played, nothing_played, with_s
 use Rattle.step_play.specs.Playing.{IsAct}
 use Rattle.step_play.proofs.Lines.{act_is, shape_checked, sections_fit}
 use Rattle.step_play.proofs.Totals.{total_here}
+use Rattle.core_steps.proofs.Stepping.{steps_core}
 
 -- ---- a reached state is that of a core
 
@@ -60,12 +60,8 @@ step_shown s p actor.Manager core none =
     managed_after (core_played s p) p.moves refl
     ∙ ap (λ (moves : List Move). core_of s.shape s.sections p.machine (managed s.shape s.sections (core_played s p).words p.modules) moves) (sym (append-nil p.moves))
 
-stepped_core : (s : CoreState) (who : Actor) → IsCore s → refused s who ≡ None → IsCore (stepped s who)
-stepped_core s (actor.Cpu cpu) core none = (gone s cpu core none).core
-stepped_core s actor.Manager core none = manager_core s core none
-
 step_core : (s : Setting) (p : Played) (who : Actor) → IsCore (core_played s p) → refused (core_played s p) who ≡ None → IsCore (core_played s (with_step s who p))
-step_core s p who core none = subst IsCore (step_shown s p who core none) (stepped_core (core_played s p) who core none)
+step_core s p who core none = subst IsCore (step_shown s p who core none) (steps_core (core_played s p) who core none)
 
 stepped_row : (s : CoreState) (who : Actor) → IsCore s → refused s who ≡ None → (reads : ℕ) → StepsWith s.shape (state_after reads s) (state_after (reads + reads_of s who) (stepped s who))
 stepped_row s (actor.Cpu cpu) core none reads = rw add-zero ((gone s cpu core none).steps reads)

@@ -1,6 +1,6 @@
 -- What a core that plays a schedule has of its meaning.
 use Rattle.std.specs.Prelude.{◌≡◌, ℕ, ◌+◌, ◌<◌, Result, Ok, Err, List, length, ⊤}
-use Rattle.cpu_ops.specs.MayQueue.{section_len}
+use Rattle.tag_section.specs.Section.{tags_in}
 use Rattle.core_steps.specs.CoreState.{CoreState, IsActor, IsOpOf}
 use Rattle.input_form.specs.declared.code.Code.{Code}
 use Rattle.input_form.specs.declared.code.TextError.{TextError}
@@ -51,7 +51,7 @@ abbrev pub IsAct : CoreState → StepAct → Type 0
 IsAct core (act.Do who what) = IsActor core (actor_of who) × IsOpOf core.sections (actor_of who) (op_of what)
 IsAct core (act.Go who count) = ⊤
 IsAct core act.Print = ⊤
-IsAct core (act.Words section index) = (section < length core.sections) × (index < section_len core.sections section)
+IsAct core (act.Words section index) = (section < length core.sections) × (index < tags_in core.sections section)
 
 -- A call left what the meaning of lines says, unless memory ran out.
 abbrev pub Plays : Setting → Result ⊤ TextError → CoreState → List ℕ → Result Played (ℕ × Code) → Type 0

@@ -1,17 +1,16 @@
 -- How much a checked trace counts: a failed allocation or an uncounted object for each op at most, and few ops.
-use Rattle.std.proofs.Common.{◌≡◌, ℕ, zero, suc, ◌+◌, ◌<◌, ◌≤◌, Bool, true, false, cond, eqb, List, [], ◌∷◌, ◌++◌, length, map, Option, Some, None, refl, ap, subst, arith, length-append, eqb-true, ne_eqb}
+use Rattle.std.proofs.Common.{◌≡◌, ℕ, zero, suc, ◌+◌, ◌<◌, ◌≤◌, Bool, true, false, cond, eqb, List, [], ◌∷◌, ◌++◌, length, map, Option, Some, None, refl, ap, subst, arith, eqb-true, ne_eqb}
 use Rattle.std.specs.Prelude.{fold, sum_by}
-use Rattle.std.specs.List.{filter, flat_map, range_with_len}
-use Rattle.std.proofs.lemmas.List.{length-map}
+use Rattle.std.specs.List.{filter, range_with_len}
 use Rattle.std.proofs.lemmas.List.Sums.{sum_by-cons}
 use Rattle.input_form.specs.declared.code.Code.{Code}
-use Rattle.input_form.specs.Forms.{AreLineNumbers, AreRising}
+use Rattle.input_form.specs.Forms.{AreLineNumbers}
 use Rattle.slab_cache.specs.Storage.{Storage}
 use Rattle.trace.specs.declared.traces.Item.{Item}
 use Rattle.trace.specs.declared.traces.Item.TheVariants as item
 use Rattle.trace.specs.declared.traces.OnOp.{OnOp}
 use Rattle.trace.specs.declared.traces.Trace.{Trace}
-use Rattle.trace.specs.Formed.{numbers_in, numbers_of}
+use Rattle.trace.specs.Formed.{numbers_of}
 use Rattle.round_check.proofs.Named.{by_bool}
 use Rattle.trace_play.specs.Machine.{Machine, worker_at}
 use Rattle.trace_play.specs.Barrier.{cpu_done, cpus_done, modules_done, none_on_its_way, on_its_way, ops_of, round_done, storage_home}
@@ -21,30 +20,7 @@ use Rattle.trace_play.proofs.OwnWords.{Counted, ops_count}
 use Rattle.trace_play.proofs.Rising.{fold_keeps}
 use Rattle.trace_play.proofs.TotalsHold.{modules_tally}
 use Rattle.tag_model.specs.declared.state.Kind.TheVariants.{Bytes}
-
--- ---- lines
-
-rising_few : (low high : ℕ) (numbers : List ℕ) → AreRising low high numbers → length numbers + low ≤ high
-rising_few low high [] r = omega (arith, r)
-rising_few low high (n ∷ numbers) r = let later = rising_few (n + 1) high numbers r.1 in omega (arith, r.0, later)
-
-ops_numbered : (items : List Item) → sum_by ops_in items ≤ length (numbers_of items)
-ops_numbered [] = omega arith
-ops_numbered (what ∷ items) =
-    let s = sum_by-cons ops_in what items in
-    let l = length-append (numbers_in what) (flat_map numbers_in items) in
-    let one = by what in
-    let later = ops_numbered items in
-    omega (arith, s, l, one, later)
-  where
-    by : (what : Item) → ops_in what ≤ length (numbers_in what)
-    by (item.Round ops) = let l = length-map ops (λ (on : OnOp). on.line) in omega (arith, l)
-    by (item.Load line section) = omega arith
-    by item.Print = omega arith
-    by item.Areas = omega arith
-
-pub few_ops : (items : List Item) → AreLineNumbers (numbers_of items) → sum_by ops_in items ≤ 131072
-few_ops items r = let f = rising_few 2 131073 (numbers_of items) r in let n = ops_numbered items in omega (arith, f, n)
+use Rattle.trace_play.proofs.Numbers.{few_ops}
 
 -- ---- each op is of one CPU
 
@@ -142,6 +118,6 @@ pub front_counts : (trace : Trace) (top : Option ℕ) (front back : List Item) �
     → ((played_so_far trace top front).played.machine.tally.failed ≤ 131072) × ((played_so_far trace top front).played.machine.tally.uncounted ≤ 131072)
 front_counts trace top front back stands lines =
     let c = items_count trace top front (nothing_played trace) in
-    let few = subst (λ items. sum_by ops_in items ≤ 131072) stands (few_ops trace.body lines) in
+    let few = subst (λ items. sum_by ops_in items ≤ 131071) stands (few_ops trace.body lines) in
     let less = front_less front back in
     (omega (arith, c.failed, few, less), omega (arith, c.uncounted, few, less))

@@ -36,7 +36,8 @@ use Rattle.trace_cover.specs.Cover.{held_may}
 use Rattle.trace_cover.proofs.Passes.{AllMay, content_may}
 use Rattle.std.proofs.lemmas.Bool.{or_left, or_right, and_parts}
 use Rattle.trace_cover.proofs.Areas.{book_map, covered_map, unloads, unloads_keeps, unloads_users}
-use Rattle.trace_cover.proofs.RoundMay.{cpus_area, round_may}
+use Rattle.trace_cover.proofs.RoundMay.{round_may}
+use Rattle.trace_play.proofs.ReadyHolds.{cpus_area}
 
 -- the entries are a book of the trace's, and the keys have tags of the kernel's and of entries
 pub record Covered (trace : Trace) (m : Machine) : Type 0 where

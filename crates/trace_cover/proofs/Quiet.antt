@@ -34,6 +34,7 @@ use Rattle.trace_cover.specs.Cover.{HasReference, has_tag, held_may, is_covered,
 use Rattle.trace_cover.proofs.Passes.{AllMay, content_may}
 use Rattle.trace_cover.proofs.Holds.{Covered, named_keys}
 use Rattle.trace_cover.proofs.Few.{calls_most}
+use Rattle.tag_model.proofs.Lists.{range_at}
 
 -- ---- a list's element that passes
 
@@ -183,14 +184,6 @@ one_place R entries i j a b pairs low_i low_j is_a is_b not_ab not_ba =
     (λ less. absurd (not_ab (subst₂ R is_a (get_or_default entries j a b low_j ∙ is_b) (pairs i j a less low_j))))
     (λ more. ⊎_elim (λ less. absurd (not_ba (subst₂ R is_b (get_or_default entries i b a low_i ∙ is_a) (pairs j i b less low_i)))) (λ same. sym is_a ∙ get_or_default entries i a b low_i ∙ ap (λ k. get_or entries k b) (omega (arith, more, same)) ∙ is_b) (cases_lt j i))
     (cases_lt i j)
-
-range_at : (p : ℕ → Bool) (from many t : ℕ) → list_all p (range_with_len from many) ≡ true → from ≤ t → t < from + many → p t ≡ true
-range_at p from zero t h low high = absurd (omega (arith, low, high))
-range_at p from (suc many) t h low high =
-    let both = and_parts (p from) (list_all p (range_with_len (from + 1) many)) h in
-    by_bool {P = p t ≡ true} (eqb t from)
-    (λ e. ap p (eqb-true t from e) ∙ both.0)
-    (λ e. let differ = eqb-false t from e in range_at p (from + 1) many t both.1 (omega (arith, low, differ)) (omega (arith, high)))
 
 -- a test that doesn't hold of all of a range fails somewhere in it
 pub range_fails : (p : ℕ → Bool) (from many : ℕ) → list_all p (range_with_len from many) ≡ false → (t : ℕ) × (from ≤ t) × (t < from + many) × (p t ≡ false)

@@ -1,7 +1,6 @@
 -- The keys behind a round's ops have tags that pass a test, where those before it do and each CPU's hooks do.
 use Rattle.std.proofs.Common.{◌≡◌, ℕ, ◌<◌, Bool, true, false, cond, T, eqb, ltb, List, [], ◌∷◌, length, Some, nat_cmp, refl, sym, ap, ◌∙◌, subst, eqb-true, ltb-true, lt-ltb, eq-eqb}
 use Rattle.std.specs.Prelude.{◌&&◌}
-use Rattle.std.specs.List.{range_with_len}
 use Rattle.std.specs.Cmp.{unsigned_tied}
 use Rattle.std.specs.FinMap.Entries.{find, is_sorted}
 use Rattle.std.proofs.lemmas.Bool.{and_parts}
@@ -13,18 +12,15 @@ use Rattle.round_check.specs.Keys.{key_at}
 use Rattle.round_check.proofs.Named.{by_bool}
 use Rattle.trace_play.specs.Live.{Content, Live}
 use Rattle.trace_play.specs.Machine.{Machine, worker_at}
-use Rattle.trace_play.specs.Barrier.{cpu_done, cpus_done, ops_of}
+use Rattle.trace_play.specs.Barrier.{cpus_done, ops_of}
 use Rattle.trace_play.specs.Alone.{alone, rises, worker_done}
 use Rattle.trace_play.specs.Fits.{is_owner, RoundFits}
 use Rattle.trace_play.specs.Ready.{IsReady, MayCount}
 use Rattle.trace_play.proofs.Entries.{find_below, first_true, second_true}
 use Rattle.trace_play.proofs.AloneLemmas.{holds}
-use Rattle.trace_play.proofs.Rising.{cpus_rise, fold_keeps}
+use Rattle.trace_play.proofs.Rising.{cpus_rise}
 use Rattle.trace_play.proofs.SideBySide.{each_has, find_of_kept, unnamed}
 use Rattle.trace_cover.proofs.Passes.{AllMay, WorkerMay, content_may, found_may, ops_may, where_may}
-
-pub cpus_area : (ops : List OnOp) (m : Machine) → (cpus_done ops m).area ≡ m.area
-cpus_area ops m = fold_keeps (λ (x : Machine). x.area ≡ m.area) (cpu_done ops) (λ x cpu h. h) (range_with_len 0 (length m.seats)) m refl
 
 module _ (may : Tag → Bool) where
   -- what each key that is found has, all have

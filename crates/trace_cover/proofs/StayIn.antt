@@ -1,7 +1,7 @@
 -- A module that a CPU is inside at some moment of a round stays loaded behind the round's ops.
-use Rattle.std.proofs.Common.{◌≡◌, ◌≢◌, ℕ, ◌<◌, Bool, true, false, cond, not, ◌||◌, eqb, List, [], ◌∷◌, length, set, get_or, Ok, All, inl, inr, ◌⊎◌, refl, sym, ap, ◌∙◌, subst, arith, eqb-true}
+use Rattle.std.proofs.Common.{◌≡◌, ℕ, ◌<◌, Bool, true, false, cond, eqb, List, [], ◌∷◌, length, set, get_or, Ok, All, inl, inr, ◌⊎◌, refl, sym, ap, ◌∙◌, subst, arith, eqb-true}
 use Rattle.std.specs.Prelude.{◌&&◌}
-use Rattle.std.specs.List.{filter, list_any}
+use Rattle.std.specs.List.{list_any}
 use Rattle.std.proofs.lemmas.Bool.{eqb-false}
 use Rattle.std.proofs.lemmas.List.{length-set}
 use Rattle.std.proofs.lemmas.List.Folds.{list_any-append}
@@ -20,20 +20,9 @@ use Rattle.round_check.proofs.Pairs.{first_line}
 use Rattle.round_check.proofs.Passed.{Fits, Passed, enters as told_enters, fits_on, leaves as told_leaves, op_ok, unloads as told_unloads}
 use Rattle.trace_play.specs.Ready.{enters, runs_inside}
 use Rattle.trace_play.proofs.CpusTold.{CpuTold, cpu_told}
-use Rattle.trace_play.proofs.HooksFit.{cpu_set, either_or}
+use Rattle.trace_play.proofs.HooksFit.{cpu_set, either_or, inside_kept}
 use Rattle.trace_play.proofs.ModulesHold.{is_loaded, module_set, nobody_is}
-use Rattle.std.proofs.lemmas.Bool.{or_left, or_right}
-
-filter_keeps : (section other : ℕ) (xs : List ℕ) → section ≢ other → list_any (λ x. eqb x section) xs ≡ true → list_any (λ x. eqb x section) (filter (λ x. not (eqb x other)) xs) ≡ true
-filter_keeps section other [] differ e = e
-filter_keeps section other (x ∷ xs) differ e = by (eqb x other) refl (eqb x section) refl e (filter_keeps section other xs differ)
-  where
-    by : (a : Bool) → eqb x other ≡ a → (b : Bool) → eqb x section ≡ b → (b || list_any (λ x. eqb x section) xs) ≡ true → (list_any (λ x. eqb x section) xs ≡ true → list_any (λ x. eqb x section) (filter (λ x. not (eqb x other)) xs) ≡ true)
-        → list_any (λ x. eqb x section) (cond (not a) (x ∷ filter (λ x. not (eqb x other)) xs) (filter (λ x. not (eqb x other)) xs)) ≡ true
-    by true o true s e later = absurd (differ (sym (eqb-true x section s) ∙ eqb-true x other o))
-    by true o false s e later = later e
-    by false o true s e later = or_left _ _ s
-    by false o false s e later = or_right _ _ (later e)
+use Rattle.std.proofs.lemmas.Bool.{or_left}
 
 module _ (section : ℕ) (low : section < 65) where
   -- it is loaded, and was entered or left in this round, or somebody is inside
@@ -89,7 +78,7 @@ module _ (section : ℕ) (low : section < 65) where
           let loaded = set_modules here next s _ _ (omega (arith, fits.modules, f)) t.modules_are in
           by_bool {P = Pinned next} (eqb section s)
           (λ h. (loaded ∙ p.0, inl (subst (λ n. (module_at next n).moved ≡ next.round) (sym (eqb-true section s h)) ((told_leaves on.cpu s here next fits f e).leaves ∙ sym (passed (op.Leave s) f e).round))))
-          (λ h. either (op.Leave s) f e loaded (still_inside here next on.cpu _ below t.cpus_are (λ i. filter_keeps section s (cpu_at here.cpus on.cpu).inside (eqb-false section s h) i)))
+          (λ h. either (op.Leave s) f e loaded (still_inside here next on.cpu _ below t.cpus_are (λ i. inside_kept section s (cpu_at here.cpus on.cpu).inside (eqb-false section s h) i)))
       by (op.Unload s) f e t =
           by_bool {P = Pinned next} (eqb section s)
           (λ h.

@@ -43,12 +43,12 @@ use Rattle.tag_model.specs.Wrap.{wrap}
 use Rattle.std.proofs.lemmas.List.{append_assoc}
 use Rattle.trace_cover.specs.Cover.{AreCounted, AreNamed, HasCover, held_may, is_covered}
 use Rattle.trace_cover.proofs.Passes.{AllMay, content_may}
-use Rattle.trace_cover.proofs.RoundMay.{cpus_area}
 use Rattle.trace_cover.proofs.Holds.{Covered, before_cleaning, cpus_last}
 use Rattle.trace_cover.proofs.Items.{AtRound, after_front, at_round}
 use Rattle.trace_cover.proofs.StayIn.{stays_loaded}
 use Rattle.trace_cover.proofs.Few.{few_cells}
 use Rattle.trace_cover.proofs.Quiet.{are_counted}
+use Rattle.trace_play.proofs.ReadyHolds.{cpus_area}
 
 -- ---- references by cell
 

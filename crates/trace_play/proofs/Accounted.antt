@@ -39,7 +39,8 @@ use Rattle.trace_play.proofs.Entries.{find_put, sorted_put}
 use Rattle.trace_play.proofs.KeysFit.{bytes_in_parts, content_is, order_is}
 use Rattle.trace_play.proofs.LiveSums.{found_weight, entries_sum, sum_put, sum_without}
 use Rattle.trace_play.proofs.LiveChanges.{parts_sum, put_unbound, split_sum}
-use Rattle.trace_play.proofs.NodeLemmas.{sum_at, sum_stays, has_slab_within, no_slab_at, slabs_of_vector}
+use Rattle.trace_play.proofs.NodeLemmas.{sum_at, sum_stays, has_slab_within, no_slab_at}
+use Rattle.slab_cache.proofs.GivenLemmas.{slabs_of_vector}
 
 -- ---- the moves of one reference
 

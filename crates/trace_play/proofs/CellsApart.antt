@@ -16,7 +16,8 @@ use Rattle.trace_play.specs.Worker.{Seat}
 use Rattle.trace_play.specs.Machine.{Machine, fresh_seat, seat_at, content_cell, slab_cell, slab_cells}
 use Rattle.trace_play.specs.Owned.{one_if, is_in, has_frame, has_cell_of, is_taken, same_vector, slab_has_frame, slab_has_vector, slab_has_cell, slabs_sum}
 use Rattle.trace_play.specs.Sound.{content_weight, live_sum, storage_sum, is_away, IsSound, same_slot, references_in}
-use Rattle.trace_play.proofs.NodeLemmas.{starts_in, same_number, by_test}
+use Rattle.trace_play.proofs.NodeLemmas.{starts_in, same_number}
+use Rattle.round_check.proofs.Named.{by_bool}
 
 -- ---- counts
 
@@ -89,7 +90,7 @@ frame_away h f count (storage.Pages block) high =
     (λ e. let b = and_parts (eqb block.home h) (is_in f block.frame block.order) e in let same = eqb-true block.home h b.0 in not_below block.home count (omega arith))
   where
     not_below : (a b : ℕ) → b ≤ a → not (ltb a b) ≡ true
-    not_below a b low = by_test (ltb a b) (λ t. let l = ltb-true a b t in absurd (omega arith)) (λ t. ap not t)
+    not_below a b low = by_bool (ltb a b) (λ t. let l = ltb-true a b t in absurd (omega arith)) (λ t. ap not t)
 frame_away h f count (storage.Object home frame place vector holds) high = omega arith
 frame_away h f count (storage.Uncounted home frame place) high = omega arith
 
@@ -100,7 +101,7 @@ cell_away h v p count (storage.Object home frame place vector holds) high =
     (λ e. let b = and_parts (eqb home h) (eqb place p && eqb v vector) e in let same = eqb-true home h b.0 in not_below home count (omega arith))
   where
     not_below : (a b : ℕ) → b ≤ a → not (ltb a b) ≡ true
-    not_below a b low = by_test (ltb a b) (λ t. let l = ltb-true a b t in absurd (omega arith)) (λ t. ap not t)
+    not_below a b low = by_bool (ltb a b) (λ t. let l = ltb-true a b t in absurd (omega arith)) (λ t. ap not t)
 cell_away h v p count (storage.Uncounted home frame place) high = omega arith
 
 live_le : (f g : Storage → ℕ) (live : Live) → ((given : Storage) → f given ≤ g given) → live_sum f live ≤ live_sum g live
@@ -204,7 +205,7 @@ module _ (m : Machine) (s : IsSound m) where
   no_two (Page h f) =
       let r = references_are (Page h f) m in
       let live = live_pages h f in
-      by_test (ltb h (length m.seats))
+      by_bool (ltb h (length m.seats))
       (λ t.
       let low = ltb-true h (length m.seats) t in
       let node = s.nodes h low in
@@ -223,7 +224,7 @@ module _ (m : Machine) (s : IsSound m) where
       let r = references_are (Object h v p) m in
       let live = live_objects h v p in
       let seats = seats_else (Object h v p) (λ cpu start. refl) in
-      by_test (ltb h (length m.seats))
+      by_bool (ltb h (length m.seats))
       (λ t.
       let low = ltb-true h (length m.seats) t in
       let node = s.nodes h low in

@@ -10,10 +10,7 @@ use Rattle.std.proofs.lemmas.List.FromFn.{length-map-range_with_len, get_or-map-
 use Rattle.std.proofs.lemmas.List.Sums.{sum_by-cons}
 use Rattle.tag_model.specs.declared.shape.Shape.{Shape}
 use Rattle.tag_model.specs.declared.state.Held.{Held}
-use Rattle.tag_model.specs.declared.state.Kind.{Kind}
-use Rattle.tag_model.specs.declared.state.Kind.TheVariants.{Bytes, Calls}
 use Rattle.tag_model.specs.Index.{Slot, Word, Page, Object, IsSlot, index_of}
-use Rattle.tag_model.specs.Laws.{same_kind}
 use Rattle.tag_model.proofs.Slots.{slots_apart}
 use Rattle.tag_model.specs.declared.state.Tag.{Tag}
 use Rattle.tag_model.specs.RefMoves.{close_moves}
@@ -49,6 +46,7 @@ use Rattle.trace_play.proofs.TraceFits.{modules_seats}
 use Rattle.trace_play.proofs.MachineSound.{has_home, machines_are_sound}
 use Rattle.trace_play.proofs.CellsApart.{no_two}
 use Rattle.trace_play.proofs.NeedsMet.{object_place}
+use Rattle.tag_model.proofs.ListRows.{same_kind_refl}
 
 -- ---- what holds of each element
 
@@ -177,14 +175,10 @@ module _ (k : Shape) (m : Machine) (frames vectors : ℕ) (s : IsSound m) (cpus_
 
 -- ---- the one that is found
 
-same_kinds : (kind : Kind) → same_kind kind kind ≡ true
-same_kinds Bytes = refl
-same_kinds Calls = refl
-
 same_itself : (slot : Slot) → same_slot slot slot ≡ true
 same_itself (Page a f) = λ i. same_number a i && same_number f i
 same_itself (Object a v p) = λ i. same_number a i && (same_number v i && same_number p i)
-same_itself (Word a kind t) = λ i. same_number a i && (same_kinds kind i && same_number t i)
+same_itself (Word a kind t) = λ i. same_number a i && (same_kind_refl kind i && same_number t i)
 
 one_counted : (slot : Slot) (held : Held) (xs : List (Slot × Held)) (i : ℕ) → slice_get xs i ≡ Some (slot, held) → 1 ≤ count_by (λ (e : Slot × Held). same_slot slot e.0) xs
 one_counted slot held [] i e = let no : ⊥ = cc in absurd no

@@ -130,7 +130,7 @@ inside_less section other (x ∷ xs) e = by (eqb x other) e (inside_less section
     by true h rest = or_right (eqb x section) (list_any (λ y. eqb y section) xs) (rest h)
     by false h rest = by_bool {P = (eqb x section || list_any (λ y. eqb y section) xs) ≡ true} (eqb x section) (λ t. or_left (eqb x section) _ t) (λ t. or_right (eqb x section) _ (rest (either_or (eqb x section) _ h t)))
 
-inside_kept : (section other : ℕ) (xs : List ℕ) → section ≢ other → list_any (λ x. eqb x section) xs ≡ true → list_any (λ x. eqb x section) (filter (λ x. not (eqb x other)) xs) ≡ true
+pub inside_kept : (section other : ℕ) (xs : List ℕ) → section ≢ other → list_any (λ x. eqb x section) xs ≡ true → list_any (λ x. eqb x section) (filter (λ x. not (eqb x other)) xs) ≡ true
 inside_kept section other [] differ e = e
 inside_kept section other (x ∷ xs) differ e = by (eqb x other) refl (inside_kept section other xs differ)
   where

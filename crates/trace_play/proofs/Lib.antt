@@ -25,3 +25,4 @@ pub mod OwnWords
 pub mod WordsTotal
 pub mod CellsFound
 pub mod RangeSums
+pub mod Numbers

@@ -21,23 +21,21 @@ use Rattle.slab_cache.specs.Storage.{Storage, Pages, Object, Uncounted, home_of,
 use Rattle.slab_cache.specs.Giving.{Given, block_from, given_block, object_from, with_new_slab, object_from_new, slab_or_new, object_or_block, given_object, start_in}
 use Rattle.slab_cache.specs.Homing.{Taken, come_home, place_home, without_slab}
 use Rattle.trace_play.specs.Owned.{one_if, is_in, has_frame, same_vector, is_object_at, has_cell_of, is_taken, slab_has_frame, slab_has_vector, is_taken_at, slab_has_cell, places_of, slabs_sum, NodeSound}
+use Rattle.round_check.proofs.Named.{by_bool}
+use Rattle.slab_cache.proofs.GivenLemmas.{slabs_of_vector}
 
 -- ---- tests
 
 pub same_number : (n : ℕ) → eqb n n ≡ true
 same_number n = eq-eqb n n refl
 
-pub by_test : {P : Type 0} (b : Bool) → (b ≡ true → P) → (b ≡ false → P) → P
-by_test true h g = h refl
-by_test false h g = g refl
-
 in_range : (frame start order : ℕ) → is_in frame start order ≡ true → (start ≤ frame) × (frame < start + 2 ^ order)
 in_range frame start order e = let b = and_parts (leb start frame) (ltb frame (start + 2 ^ order)) e in (leb-true start frame b.0, ltb-true frame (start + 2 ^ order) b.1)
 
 out_of_range : (frame start order : ℕ) → is_in frame start order ≡ false → (frame < start) ⊎ (start + 2 ^ order ≤ frame)
 out_of_range frame start order e =
-    by_test (leb start frame)
-    (λ low. by_test {P = (frame < start) ⊎ (start + 2 ^ order ≤ frame)} (ltb frame (start + 2 ^ order)) (λ high. let no : ⊥ = cc (e, low, high, ap (λ b. b && ltb frame (start + 2 ^ order)) low) in absurd no) (λ high. inr (ltb-false frame (start + 2 ^ order) high)))
+    by_bool (leb start frame)
+    (λ low. by_bool {P = (frame < start) ⊎ (start + 2 ^ order ≤ frame)} (ltb frame (start + 2 ^ order)) (λ high. let no : ⊥ = cc (e, low, high, ap (λ b. b && ltb frame (start + 2 ^ order)) low) in absurd no) (λ high. inr (ltb-false frame (start + 2 ^ order) high)))
     (λ low. inl (leb-false start frame low))
 
 pub is_in_it : (frame start order : ℕ) → start ≤ frame → frame < start + 2 ^ order → is_in frame start order ≡ true
@@ -50,7 +48,7 @@ starts_in start order = let some = pow_pos order in is_in_it start start order (
 
 marked_at_frame : (b : Bool) (start order : ℕ) (frames : List Bool) (frame : ℕ) → start + 2 ^ order ≤ length frames → get_or (marked b start order frames) frame false ≡ cond (is_in frame start order) b (get_or frames frame false)
 marked_at_frame b start order frames frame within =
-    by_test (is_in frame start order)
+    by_bool (is_in frame start order)
     (λ e. let r = in_range frame start order e in marked_inside b false start order frames frame within r.0 r.1 ∙ sym (cond-true (is_in frame start order) b (get_or frames frame false) e))
     (λ e. marked_outside b false start order frames frame within (out_of_range frame start order e) ∙ sym (cond-false (is_in frame start order) b (get_or frames frame false) e))
 
@@ -112,13 +110,13 @@ taken_within (x ∷ xs) (suc i) e = let below = taken_within xs i e in omega ari
 
 slab_set_at : (slabs : List (Option Slab)) (i j : ℕ) (x : Option Slab) → i < length slabs → get_or (set slabs i x) j None ≡ cond (eqb j i) x (get_or slabs j None)
 slab_set_at slabs i j x below =
-    by_test (eqb j i)
+    by_bool (eqb j i)
     (λ e. get_or-set_at slabs i j x None (eqb-true j i e) below ∙ sym (cond-true (eqb j i) x (get_or slabs j None) e))
     (λ e. get_or-set_other slabs i j x None (eqb-false j i e) ∙ sym (cond-false (eqb j i) x (get_or slabs j None) e))
 
 bool_set_at : (bits : List Bool) (i j : ℕ) (x : Bool) → i < length bits → get_or (set bits i x) j false ≡ cond (eqb j i) x (get_or bits j false)
 bool_set_at bits i j x below =
-    by_test (eqb j i)
+    by_bool (eqb j i)
     (λ e. get_or-set_at bits i j x false (eqb-true j i e) below ∙ sym (cond-true (eqb j i) x (get_or bits j false) e))
     (λ e. get_or-set_other bits i j x false (eqb-false j i e) ∙ sym (cond-false (eqb j i) x (get_or bits j false) e))
 
@@ -177,7 +175,7 @@ first_free places e =
 place_taken : (places : List Bool) (place p : ℕ) (own : Bool) → get_or places place false ≡ false → place < length places
     → one_if (get_or (set places place true) p false && own) ≡ one_if (get_or places p false && own) + one_if (eqb place p && own)
 place_taken places place p own free below =
-    by_test (eqb p place)
+    by_bool (eqb p place)
     (λ e.
     let same : p ≡ place = eqb-true p place e in
     subst (λ n. one_if (get_or (set places place true) n false && own) ≡ one_if (get_or places n false && own) + one_if (eqb place n && own)) (sym same)
@@ -193,7 +191,7 @@ place_free : (places : List Bool) (place p : ℕ) (own : Bool) → get_or places
     → one_if (get_or places p false && own) ≡ one_if (eqb place p && own) + one_if (get_or (set places place false) p false && own)
 place_free places place p own taken =
     let below : place < length places = taken_within places place taken in
-    by_test (eqb p place)
+    by_bool (eqb p place)
     (λ e.
     let same : p ≡ place = eqb-true p place e in
     subst (λ n. one_if (get_or places n false && own) ≡ one_if (eqb place n && own) + one_if (get_or (set places place false) n false && own)) (sym same)
@@ -224,7 +222,7 @@ cell_weight c v p frame place (Some u) holds = own_home c (eqb place p && eqb v 
 -- what holds of each slab, where one is changed
 each_slab : (P : ℕ → Option Slab → Type 0) (slabs : List (Option Slab)) (frame : ℕ) (now : Option Slab) → frame < length slabs → P frame now → ((f : ℕ) → f ≢ frame → P f (get_or slabs f None)) → (f : ℕ) → P f (get_or (set slabs frame now) f None)
 each_slab P slabs frame now below here others f =
-    by_test (eqb f frame)
+    by_bool (eqb f frame)
     (λ e. subst₂ P (sym (eqb-true f frame e)) (sym (get_or-set_at slabs frame f now None (eqb-true f frame e) below)) here)
     (λ e. subst (P f) (sym (get_or-set_other slabs frame f now None (eqb-false f frame e))) (others f (eqb-false f frame e)))
 
@@ -496,10 +494,6 @@ pub cpu_of_vector : (out : Bool) (vector : Option ℕ) (node : NodeState) → (w
 cpu_of_vector out None node = refl
 cpu_of_vector out (Some v) node = refl
 
-pub slabs_of_vector : (out : Bool) (vector : Option ℕ) (node : NodeState) → (with_vector out vector node).slabs ≡ node.slabs
-slabs_of_vector out None node = refl
-slabs_of_vector out (Some v) node = refl
-
 -- each class has objects
 class_has : (size class : ℕ) → class_of size ≡ Some class → 0 < objects_in class
 class_has size class e = ltb-true 0 (objects_in class) (passes (leb size) classes class refl e)
@@ -508,7 +502,7 @@ class_has size class e = ltb-true 0 (objects_in class) (passes (leb size) classe
     passes p [] x all e = let no : ⊥ = cc in absurd no
     passes p (y ∷ ys) x all e =
         let here = and_parts (ltb 0 (objects_in y)) (list_all (λ c. ltb 0 (objects_in c)) ys) all in
-        by_test (p y)
+        by_bool (p y)
         (λ yes_so. let f : Some y ≡ Some x = sym (cond-true (p y) (Some y) (find p ys) yes_so) ∙ e in let same : y ≡ x = cc in subst (λ n. ltb 0 (objects_in n) ≡ true) same here.0)
         (λ no_so. passes p ys x here.1 (sym (cond-false (p y) (Some y) (find p ys) no_so) ∙ e))
 

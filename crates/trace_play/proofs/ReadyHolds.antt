@@ -113,7 +113,7 @@ round_hooks ops m h =
     (on_its_way marked) (none_on_its_way marked) (none_hooks marked.seats h (fresh_seat 0 0 h))
     ∙ ap (λ seats. (get_or seats h (fresh_seat 0 0 h)).hooks) (modules_seats ops left)
 
-cpus_area : (ops : List OnOp) (m : Machine) → (cpus_done ops m).area ≡ m.area
+pub cpus_area : (ops : List OnOp) (m : Machine) → (cpus_done ops m).area ≡ m.area
 cpus_area ops m = fold_keeps (λ (x : Machine). x.area ≡ m.area) (cpu_done ops) (λ x cpu e. e) (range_with_len 0 (length m.seats)) m refl
 
 round_entries : (ops : List OnOp) (m : Machine) (section : ℕ) → loaded_one section (round_done ops m).area.entries ≡ loaded_one section (modules_done ops (cpus_done ops m)).area.entries

@@ -11,11 +11,11 @@ use Rattle.allocinfo.specs.Rank.{inserted, ranked}
 use Rattle.input_form.specs.Forms.{line_form, tail_form, is_skipped, first_line}
 use Rattle.trace.specs.TraceGrammar.{trace_op, on_line}
 use Rattle.input_form.specs.Words.{is_word, number_word, cpu_word}
-use Rattle.input_form.specs.Head.{head_line, size_line, kernel_line, section_form, begun, module_line, tag_of, added, tag_line}
+use Rattle.input_form.specs.Head.{head_line, head_word, size_line, kernel_line, section_form, begun, module_line, tag_of, added, tag_line}
 use Rattle.trace.specs.TraceWords.{trace_keyword, on_name}
 use Rattle.input_form.specs.Places.{module_word, tag_word}
-use Rattle.trace.specs.TraceReading.{print_line, body_line, word_line, trace_header, trace_of}
-use Rattle.input_form.specs.Reading.{judged_line}
+use Rattle.trace.specs.TraceReading.{print_line, trace_header, trace_of}
+use Rattle.input_form.specs.Reading.{body_line, judged_line, word_line}
 use Rattle.trace_play.specs.Printed.{area_text, areas_text}
 use Rattle.trace_play.specs.Play.{done_text}
 use Rattle.trace_play.specs.Answer.{run_answer, told, refusal_text}
@@ -50,7 +50,7 @@ TheseArePrinted =
     × (told (run_answer None kept_rows_printed) ≡ (0, kept_rows_printed_text))
 
 pub these_are_printed : TheseArePrinted
-unfolding digits lines_of tail_of words_of is_file_byte is_function_byte is_file is_function tag_text kept_text is_module_byte is_module_name place_text row_text inserted ranked line_form tail_form is_skipped first_line trace_op on_line is_word number_word cpu_word head_line size_line kernel_line section_form begun module_line tag_of added tag_line trace_keyword on_name module_word tag_word print_line body_line word_line judged_line trace_header trace_of area_text areas_text done_text run_answer refusal_text code_text idle_cpus unbound_keys absent_modules own_key bound_key free_key take_key give_key part_keys split_key swap_keys trim_key enter_module leave_module unload_module hook_tag unhook_tag load_module walk_op walk_item rounds_of empty_mark_free empty_mark_free_text freed_twice kept_range_bars_load kept_rows_printed kept_rows_printed_text nested_hooks nested_hooks_text no_frames no_frames_text no_vectors no_vectors_text range_given_again range_given_again_text shared_key slab_and_object slab_and_object_text storage_home_at_barrier storage_home_at_barrier_text swapped_references swapped_references_text swapped_unequal top_one_text two_file_systems two_file_systems_text
+unfolding digits lines_of tail_of words_of is_file_byte is_function_byte is_file is_function tag_text kept_text is_module_byte is_module_name place_text row_text inserted ranked line_form tail_form is_skipped first_line trace_op on_line is_word number_word cpu_word head_line size_line kernel_line section_form begun module_line tag_of added tag_line trace_keyword head_word on_name module_word tag_word print_line body_line word_line judged_line trace_header trace_of area_text areas_text done_text run_answer refusal_text code_text idle_cpus unbound_keys absent_modules own_key bound_key free_key take_key give_key part_keys split_key swap_keys trim_key enter_module leave_module unload_module hook_tag unhook_tag load_module walk_op walk_item rounds_of empty_mark_free empty_mark_free_text freed_twice kept_range_bars_load kept_rows_printed kept_rows_printed_text nested_hooks nested_hooks_text no_frames no_frames_text no_vectors no_vectors_text range_given_again range_given_again_text shared_key slab_and_object slab_and_object_text storage_home_at_barrier storage_home_at_barrier_text swapped_references swapped_references_text swapped_unequal top_one_text two_file_systems two_file_systems_text
 these_are_printed = (refl, refl, refl, refl, refl, refl, refl, refl, refl, refl, refl, refl, refl, refl, refl)
 
 abbrev pub TheseAreLeft : Type 0
@@ -63,5 +63,5 @@ TheseAreLeft =
     × (held_at program_shape (run_answer None storage_home_at_barrier).machine (page_index program_shape 0 1) ≡ held.None)
 
 pub these_are_left : TheseAreLeft
-unfolding digits lines_of tail_of words_of is_file_byte is_function_byte is_file is_function tag_text kept_text is_module_byte is_module_name place_text row_text inserted ranked line_form tail_form is_skipped first_line trace_op on_line is_word number_word cpu_word head_line size_line kernel_line section_form begun module_line tag_of added tag_line trace_keyword on_name module_word tag_word print_line body_line word_line judged_line trace_header trace_of area_text areas_text done_text run_answer refusal_text code_text idle_cpus unbound_keys absent_modules own_key bound_key free_key take_key give_key part_keys split_key swap_keys trim_key enter_module leave_module unload_module hook_tag unhook_tag load_module walk_op walk_item rounds_of storage_home_at_barrier
+unfolding digits lines_of tail_of words_of is_file_byte is_function_byte is_file is_function tag_text kept_text is_module_byte is_module_name place_text row_text inserted ranked line_form tail_form is_skipped first_line trace_op on_line is_word number_word cpu_word head_line size_line kernel_line section_form begun module_line tag_of added tag_line trace_keyword head_word on_name module_word tag_word print_line body_line word_line judged_line trace_header trace_of area_text areas_text done_text run_answer refusal_text code_text idle_cpus unbound_keys absent_modules own_key bound_key free_key take_key give_key part_keys split_key swap_keys trim_key enter_module leave_module unload_module hook_tag unhook_tag load_module walk_op walk_item rounds_of storage_home_at_barrier
 these_are_left = (refl, refl, refl, refl, refl, refl)

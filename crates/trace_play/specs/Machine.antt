@@ -1,5 +1,5 @@
 -- The machine of a trace: each CPU's seat, the live list, the modules, and what was done. From these the references by cell.
-use Rattle.std.specs.Prelude.{ℕ, ◌==◌, Bool, true, false, Option, Some, None, List, [], ◌∷◌, ◌++◌, map, replicate, count_by, slice_index_or, slice_set}
+use Rattle.std.specs.Prelude.{ℕ, ◌==◌, Bool, false, Option, Some, None, List, [], ◌∷◌, ◌++◌, map, replicate, count_by, slice_index_or, slice_set}
 use Rattle.std.specs.List.{flat_map, enumerate_from, range_with_len}
 use Rattle.tag_model.specs.declared.state.Held.{Held}
 use Rattle.tag_model.specs.declared.state.Held.TheVariants as held
@@ -11,6 +11,7 @@ use Rattle.slab_cache.specs.Storage.{Storage}
 use Rattle.trace.specs.declared.traces.Trace.{Trace}
 use Rattle.trace_play.specs.Live.{Content, Nothing, Stored, Live}
 use Rattle.trace_play.specs.Worker.{Seat, Tally, WorkerState}
+use Rattle.tag_model.specs.Reference.{is_counted}
 
 pub record Machine : Type 0 where
   pub seats : List Seat
@@ -79,11 +80,6 @@ slab_cells node = flat_map (λ (entry : ℕ × Option Slab). slab_cell node.node
 abbrev pub live_cells : Machine → List (Slot × Held)
 live_cells m =
     flat_map (λ (entry : ℕ × Content). content_cell entry.1) m.live ++ flat_map (λ seat. slab_cells seat.node) m.seats
-
-abbrev pub is_counted : Held → Bool
-is_counted held.None = false
-is_counted held.Empty = false
-is_counted (held.Counted tag size) = true
 
 -- how many references there are
 abbrev pub live_count : Machine → ℕ

@@ -1,9 +1,6 @@
 -- Worked traces, and what each prints.
 use Rattle.std.specs.Prelude.{ℕ, List, ◌++◌, codes}
-
--- the two lines before the tags
-abbrev pub header : List ℕ
-header = codes "allocinfo - version: 1.0\n#     <size>  <calls> <tag info>\n"
+use Rattle.allocinfo.specs.Text.{header_text}
 
 -- the first lines of most
 abbrev pub head : List ℕ
@@ -17,14 +14,14 @@ slab_and_object =
 
 unfoldable pub slab_and_object_text : List ℕ
 slab_and_object_text =
-    header ++ codes "        4096        1 mm/slub.c:1 func:slab \n         128        1 mm/a.c:10 func:fa \n"
+    header_text ++ codes "        4096        1 mm/slub.c:1 func:slab \n         128        1 mm/a.c:10 func:fa \n"
     ++ codes "           0        0 mm/b.c:20 func:fb \n"
     ++ codes "done: rounds 1 ops 2 failed 0 uncounted 0 live 2 kept 0\n"
 
 -- the same, with the one row that has most
 unfoldable pub top_one_text : List ℕ
 top_one_text =
-    header
+    header_text
     ++ codes "        4096        1 mm/slub.c:1 func:slab \n"
     ++ codes "done: rounds 1 ops 2 failed 0 uncounted 0 live 2 kept 0\n"
 
@@ -38,7 +35,7 @@ storage_home_at_barrier =
 
 unfoldable pub storage_home_at_barrier_text : List ℕ
 storage_home_at_barrier_text =
-    header
+    header_text
     ++ codes "           0        0 mm/slub.c:1 func:slab \n       16384        1 mm/a.c:10 func:fa \n"
     ++ codes "done: rounds 3 ops 5 failed 1 uncounted 0 live 1 kept 0\n"
 
@@ -51,9 +48,9 @@ no_vectors =
 
 unfoldable pub no_vectors_text : List ℕ
 no_vectors_text =
-    header ++ codes "        4096        1 mm/slub.c:1 func:slab \n           0        0 mm/a.c:10 func:fa \n"
+    header_text ++ codes "        4096        1 mm/slub.c:1 func:slab \n           0        0 mm/a.c:10 func:fa \n"
     ++ codes "           0        0 mm/b.c:20 func:fb \n"
-    ++ header ++ codes "           0        0 mm/slub.c:1 func:slab \n           0        0 mm/a.c:10 func:fa \n"
+    ++ header_text ++ codes "           0        0 mm/slub.c:1 func:slab \n           0        0 mm/a.c:10 func:fa \n"
     ++ codes "           0        0 mm/b.c:20 func:fb \n"
     ++ codes "done: rounds 2 ops 3 failed 0 uncounted 1 live 0 kept 0\n"
 
@@ -86,7 +83,7 @@ empty_mark_free =
 
 unfoldable pub empty_mark_free_text : List ℕ
 empty_mark_free_text =
-    header ++ codes "           0        0 mm/slub.c:1 func:slab \n           0        0 mm/a.c:10 func:fa \n"
+    header_text ++ codes "           0        0 mm/slub.c:1 func:slab \n           0        0 mm/a.c:10 func:fa \n"
     ++ codes "           0        0 mm/b.c:20 func:fb \n"
     ++ codes "done: rounds 2 ops 2 failed 0 uncounted 0 live 0 kept 0\n"
 
@@ -104,7 +101,7 @@ nested_hooks =
 
 unfoldable pub nested_hooks_text : List ℕ
 nested_hooks_text =
-    header ++ codes "           0        0 mm/slub.c:1 func:slab \n        8192        1 mm/a.c:10 func:fa \n"
+    header_text ++ codes "           0        0 mm/slub.c:1 func:slab \n        8192        1 mm/a.c:10 func:fa \n"
     ++ codes "        4096        1 mm/b.c:20 func:fb \n"
     ++ codes "done: rounds 1 ops 5 failed 0 uncounted 0 live 2 kept 0\n"
 
@@ -116,7 +113,7 @@ no_frames =
 
 unfoldable pub no_frames_text : List ℕ
 no_frames_text =
-    header ++ codes "           0        0 mm/slub.c:1 func:slab \n     4194304        1 mm/a.c:10 func:fa \n"
+    header_text ++ codes "           0        0 mm/slub.c:1 func:slab \n     4194304        1 mm/a.c:10 func:fa \n"
     ++ codes "           0        0 mm/b.c:20 func:fb \n"
     ++ codes "done: rounds 1 ops 3 failed 1 uncounted 0 live 1 kept 0\n"
 
@@ -129,7 +126,7 @@ swapped_references =
 
 unfoldable pub swapped_references_text : List ℕ
 swapped_references_text =
-    header ++ codes "           0        0 mm/slub.c:1 func:slab \n        8192        1 mm/a.c:10 func:fa \n"
+    header_text ++ codes "           0        0 mm/slub.c:1 func:slab \n        8192        1 mm/a.c:10 func:fa \n"
     ++ codes "           0        0 mm/b.c:20 func:fb \n"
     ++ codes "done: rounds 1 ops 6 failed 0 uncounted 0 live 1 kept 0\n"
 
@@ -171,7 +168,7 @@ two_file_systems_lines =
 
 abbrev pub two_file_systems_first : List ℕ
 two_file_systems_first =
-    header
+    header_text
     ++ codes "       45056        4 mm/slub.c:2326 func:alloc_slab_page \n"
     ++ codes "       20480        2 mm/filemap.c:1951 func:__filemap_get_folio \n"
     ++ codes "           0        0 kernel/fork.c:308 func:alloc_thread_stack_node \n"
@@ -192,7 +189,7 @@ two_file_systems_first =
 
 abbrev pub two_file_systems_second : List ℕ
 two_file_systems_second =
-    header
+    header_text
     ++ codes "       40960        3 mm/slub.c:2326 func:alloc_slab_page \n"
     ++ codes "       16384        4 mm/filemap.c:1951 func:__filemap_get_folio \n"
     ++ codes "       16384        1 kernel/fork.c:308 func:alloc_thread_stack_node \n"
@@ -219,7 +216,7 @@ two_file_systems_text =
     ++ two_file_systems_second
     ++ two_file_systems_done
 
--- by the header's version they are
+-- by the header_text's version they are
 unfoldable pub kept_rows_printed : List ℕ
 kept_rows_printed =
     codes "memprof-trace 1.1\n"
