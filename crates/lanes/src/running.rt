@@ -13,7 +13,8 @@ use std::thread::{Threads, join_mut};
 use tag_rule::{CpuSeat, Name};
 use trace::OnOp;
 
-/// Each worker takes the ops of its lane, on its CPU, beside the others. A lane with no op gets no thread.
+/// Each worker takes the ops of its lane, on its CPU, beside the others. A lane with no op gets no thread: where one half of
+/// the lanes has no op, the other runs in this thread.
 #[cycle(side_by_side)]
 pub fn run_lanes<R: Threads + Wait + Sync, N: Name + Send + Sync, G: Gate + Sync>(
     rt: &R,
@@ -32,23 +33,6 @@ pub fn run_lanes<R: Threads + Wait + Sync, N: Name + Send + Sync, G: Gate + Sync
     if ops.len() < 2 {
         return run_lane(rt, list, gate, &ops[0], &mut workers[0], &mut cpus[0]);
     }
-    run_halves(rt, list, gate, ops, workers, cpus)
-}
-
-// Several lanes, in halves. Where one half has no op the other runs in this thread.
-#[cycle(side_by_side)]
-fn run_halves<R: Threads + Wait + Sync, N: Name + Send + Sync, G: Gate + Sync>(
-    rt: &R,
-    list: &ModuleList<N>,
-    gate: &G,
-    ops: &[Vec<OnOp>],
-    workers: &mut [Worker],
-    cpus: &mut [CpuSeat],
-) -> Result<(), AllocError>
-    requires several { 1 < length ops.now }
-    requires ready { AreReady (map (λ lane. lane.items) ops.now) workers.old cpus.old }
-    ensures done { OnOk result (AreDone (map (λ lane. lane.items) ops.now) workers.old workers.new cpus.old cpus.new) }
-{
     let half = ops.len() / 2;
     let (low_ops, high_ops) = ops.split_at(half);
     let (low, high) = workers.split_at_mut(half);

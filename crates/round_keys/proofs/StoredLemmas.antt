@@ -15,7 +15,8 @@ use Rattle.tag_rule.specs.Shown.{Board}
 use Rattle.slab_cache.specs.Storage.{Pages, Object, Uncounted}
 use Rattle.trace_play.specs.Live.{Content, Nothing, Stored, Live, held_of}
 use Rattle.trace_play.specs.Left.{word_at}
-use Rattle.trace_play.specs.Machine.{content_cell, is_counted}
+use Rattle.trace_play.specs.Machine.{content_cell}
+use Rattle.tag_model.specs.Reference.{is_counted}
 use Rattle.trace_play.proofs.Entries.{first_true, second_true, find_below, put_all}
 use Rattle.round_worker.specs.declared.keys.Kept.{Kept}
 use Rattle.round_worker.specs.Cells.{first_some, kept_word}

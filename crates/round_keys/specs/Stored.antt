@@ -11,7 +11,8 @@ use Rattle.tag_model.specs.declared.state.Held.TheVariants as held
 use Rattle.tag_model.specs.declared.state.Tag.{Tag}
 use Rattle.reclaim.specs.State.{LockedShown, part_of}
 use Rattle.trace_play.specs.Live.{Content, Live, held_of}
-use Rattle.trace_play.specs.Machine.{content_cell, is_counted}
+use Rattle.trace_play.specs.Machine.{content_cell}
+use Rattle.tag_model.specs.Reference.{is_counted}
 use Rattle.round_worker.specs.declared.keys.Kept.{Kept}
 use Rattle.round_worker.specs.Cells.{IsOfChecked, kept_seat, kept_word}
 use Rattle.round_worker.specs.Kept.{KeyList, content_of, live_of}

@@ -25,7 +25,7 @@ impl KeyStore {
         requires kept { All (λ (w : WorkerShown). AreKept w.board self.old) workers.old }
         ensures workers { OnOk result (workers.new ≡ with_lives (λ cpu. kept (handed ops.now cpu) (live_of self.old)) workers.old) }
         ensures rest { OnOk result (live_of self.new ≡ kept (λ key. not (is_handed ops.now key)) (live_of self.old)) }
-        ensures still { (board : Board) → AreKept board self.old → OnOk result (AreKept board self.new) }
+        ensures still { (board : Board) → AreKept board self.old → AreKept board self.new }
     {
         self.tell();
         for on in ops {

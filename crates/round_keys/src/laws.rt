@@ -14,8 +14,8 @@ ghost use Rattle.trace_play.specs.Fits.{is_owner};
 ghost use Rattle.trace_play.specs.Play.{played_so_far};
 ghost use Rattle.round_keys.specs.Handed.{handed, is_handed};
 
-/// In each round of a checked trace, where no `load` before it was refused, the bound keys that a CPU's ops name outright
-/// first are those that the round check's table gives to the CPU.
+/// In each round of a checked trace, where no `load` before it was refused: of the bound keys, those that go to a CPU, since
+/// the first op that names them outright is its own, are those that the round check's table gives to the CPU.
 pub fn named_keys_are_the_owners()
     ensures { (trace : Trace) (top : Option ℕ) (ops : List OnOp) (before after : Walk) → IsFormedTrace trace → rounds_of trace ≡ Ok tt → (round : IsRound trace ops before)
         → (played_so_far trace top round.front).refused ≡ None → walk_ops ops before ≡ Ok after

@@ -2,7 +2,7 @@
 
 ghost use Rattle.std.specs.Prelude.{◌≡◌, ◌*◌, ◌≤◌, ℕ, All, IfSome, count_by, length, map};
 ghost use Rattle.trace_play.specs.Live.{held_of};
-ghost use Rattle.trace_play.specs.Machine.{is_counted};
+ghost use Rattle.tag_model.specs.Reference.{is_counted};
 ghost use Rattle.round_worker.specs.Kept.{IsKept, content_of, live_of};
 ghost use Rattle.round_keys.specs.Pages.{InSlots, IsPage};
 ghost use Rattle.round_worker.specs.Parting.{AreKept};
@@ -12,7 +12,6 @@ ghost use Rattle.round_worker.specs.declared.keys.Kept as keys;
 use crate::KeyStore;
 use reclaim::Locked;
 use round_worker::Kept;
-use tag_model::Held;
 
 impl KeyStore {
     /// Each counted cell meets the list: its tag is the kernel's, or an entry has it in its range.
@@ -125,16 +124,10 @@ fn is_counted(kept: &Kept) -> bool
 {
     match kept {
         Kept::Nothing { .. } => false,
-        Kept::Block(block) => is_counted_held(block.cell().held()),
+        Kept::Block(block) => block.cell().held().is_counted(),
         Kept::Object(obj) => match obj.cell() {
-            Some(cell) => is_counted_held(cell.held()),
+            Some(cell) => cell.held().is_counted(),
             None => false,
         },
     }
-}
-
-fn is_counted_held(held: Held) -> bool
-    ensures { result ≡ is_counted held }
-{
-    matches!(held, Held::Counted { .. })
 }

@@ -16,9 +16,10 @@ use Rattle.reclaim.specs.Quiet.{is_quiet_tag, is_unquiet, total}
 use Rattle.reclaim.specs.State.{IsLocked, LockedShown}
 use Rattle.reclaim.specs.Sweeps.{with_entries}
 use Rattle.round_modules.specs.Inside.{outside}
-use Rattle.round_modules.specs.Known.{AreAsKnown, AreCounted, AreHeld, AreLoadedIn, SameModules, dead_unless, known_area}
+use Rattle.round_modules.specs.Known.{AreCounted, AreHeld, SameModules, dead_unless, known_area}
 use Rattle.round_modules.proofs.Alike.{found_alike}
 use Rattle.round_modules.proofs.Closing.{Known, closes}
+use Rattle.round_modules.proofs.Gone.{AreGone}
 use Rattle.round_modules.proofs.Members.{any_member, member_any}
 
 -- ---- CPUs with the same words
@@ -59,29 +60,29 @@ counted_on xs ys first old new known same found counted t low off =
 -- ---- all together
 
 -- the list before the end, once the CPUs are out, marked and cleaned
-pub entries_known : (l out marked clean : LockedShown) (xs ys : List CpuShown) (tags : ℕ) (known : List Entry) → IsLocked out → SameModules l out → map outside ys ≡ map outside xs → All (λ (e : Entry). e.users ≡ 0) out.area.entries
-    → AreLoadedIn out.area.entries known → AreAsKnown out.area.entries known → IsBook (known_area l.board.shape tags known) → All (λ (e : Entry). e.users ≡ 0) known
+pub entries_known : (l out marked clean : LockedShown) (xs ys : List CpuShown) (tags : ℕ) (known : List Entry) → IsLocked out → AreGone l out xs ys known
+    → IsBook (known_area l.board.shape tags known) → All (λ (e : Entry). e.users ≡ 0) known
     → AreHeld xs l.area.entries known → AreCounted xs l.board.shape.kernel_tags l.area.entries known
     → ◌≡◌ {A = Area} marked.area (with_entries (map (dead_unless known) out.area.entries) out) → ◌≡◌ {A = Area} clean.area (with_entries (filter (is_unquiet ys) marked.area.entries) marked)
     → clean.area.entries ≡ filter (is_unquiet xs) known
-entries_known l out marked clean xs ys tags known ok same alike users loaded as_known book unused held counted marked_is clean_is =
-    let first : out.area.first ≡ l.board.shape.kernel_tags = ok.first ∙ ap (λ (b : Board). b.shape.kernel_tags) same.board in
-    let found : (id : ℕ) → IsSome (entry_of l.area.entries id) → IsSome (entry_of out.area.entries id) = λ id some. found_alike l.area.entries out.area.entries id same.entries some in
+entries_known l out marked clean xs ys tags known ok gone book unused held counted marked_is clean_is =
+    let first : out.area.first ≡ l.board.shape.kernel_tags = ok.first ∙ ap (λ (b : Board). b.shape.kernel_tags) gone.same.board in
+    let found : (id : ℕ) → IsSome (entry_of l.area.entries id) → IsSome (entry_of out.area.entries id) = λ id some. found_alike l.area.entries out.area.entries id gone.same.entries some in
     let k : Known ys l.board.shape.kernel_tags out.area.entries known = record {
       rises = ok.book.rising;
       apart = ok.book.apart;
       above = All-weaker (λ (e : Entry). LiesIn out.area e.start e.length) (λ (e : Entry). l.board.shape.kernel_tags ≤ e.start) (λ e lies. omega (arith, lies.0, first)) out.area.entries ok.book.in_area;
-      unused_book = users;
+      unused_book = gone.users;
       rises_known = book.rising;
       unused_known = unused;
-      loaded = loaded;
-      as_known = as_known;
-      held = held_on xs ys l.area.entries out.area.entries known alike found held;
-      counted = counted_on xs ys l.board.shape.kernel_tags l.area.entries out.area.entries known alike found counted;
+      loaded = gone.loaded;
+      as_known = gone.as_known;
+      held = held_on xs ys l.area.entries out.area.entries known gone.alike found held;
+      counted = counted_on xs ys l.board.shape.kernel_tags l.area.entries out.area.entries known gone.alike found counted;
     } in
     ap (λ (a : Area). a.entries) clean_is
     ∙ (ap (λ (a : Area). filter (is_unquiet ys) a.entries) marked_is
-    ∙ (closes ys l.board.shape.kernel_tags out.area.entries known k ∙ filter_agree (is_unquiet ys) (is_unquiet xs) (same_unquiet xs ys alike) known))
+    ∙ (closes ys l.board.shape.kernel_tags out.area.entries known k ∙ filter_agree (is_unquiet ys) (is_unquiet xs) (same_unquiet xs ys gone.alike) known))
 
 pub first_known : (l out marked clean : LockedShown) (ys : List CpuShown) (known : List Entry) → IsLocked out → SameModules l out
     → ◌≡◌ {A = Area} marked.area (with_entries (map (dead_unless known) out.area.entries) out) → ◌≡◌ {A = Area} clean.area (with_entries (filter (is_unquiet ys) marked.area.entries) marked) → clean.area.first ≡ l.board.shape.kernel_tags

@@ -7,6 +7,7 @@ pub mod Stepping
 pub mod Told
 pub mod Marks
 pub mod Leaves
+pub mod Gone
 pub mod Closed
 pub mod KnownBooks
 pub mod Meant

@@ -1,6 +1,6 @@
 //! After a round.
 
-ghost use Rattle.std.specs.Prelude.{◌≡◌, ◌≤◌, ◌<◌, ◌+◌, [], All, AllPairs, None, filter, length, map};
+ghost use Rattle.std.specs.Prelude.{◌≡◌, ◌≤◌, ◌+◌, [], All, None, filter, length, map};
 ghost use Rattle.std.specs.Arc.{arc_value};
 ghost use Rattle.std.specs.List.{range_with_len};
 ghost use Rattle.module_area.specs.declared.entry.Entry.{Entry};
@@ -9,7 +9,7 @@ ghost use Rattle.reclaim.specs.Quiet.{is_unquiet};
 ghost use Rattle.reclaim.specs.State.{IsNamed};
 ghost use Rattle.tag_rule.specs.Shown.{CpuShown};
 ghost use Rattle.round_modules.specs.Inside.{AreInside, AreNoted, outside};
-ghost use Rattle.round_modules.specs.Known.{AreAsKnown, AreCounted, AreHeld, AreLoadedIn, SameModules, known_area, runs_of};
+ghost use Rattle.round_modules.specs.Known.{AreCounted, AreHeld, known_area, runs_of};
 
 use crate::leaving::leave_all;
 use crate::marking::mark_unknown;
@@ -49,38 +49,13 @@ pub fn end(
     ensures outside { All (λ (c : CpuShown). c.part.runs ≡ []) cpus.new }
     ensures rest { map outside cpus.new ≡ map outside cpus.old }
 {
-    leave_known(locked, pass, cpus, inside, known);
-    locked.tell();
-    mark_unknown(locked, known);
-    clean_quiet_locked(locked, cpus);
-    locked.put_sections(sections, tags);
-}
-
-// The CPUs go out of the modules. Those that stay loaded are loaded in the book too, and what the book has of a known module
-// is as it is known.
-fn leave_known(
-    locked: &mut Locked,
-    pass: &mut LoadPass,
-    cpus: &mut [CpuSeat],
-    inside: usize,
-    known: &[Entry],
-)
-    requires tables { (pass.old.board ≡ locked.old.board) × All (λ (c : CpuShown). c.board ≡ locked.old.board) cpus.old }
-    requires all { map (λ (c : CpuShown). c.part.number) cpus.old ≡ range_with_len 0 locked.old.board.shape.cpus }
-    requires hands { All (λ (c : CpuShown). c.part.hand ≡ None) cpus.old }
-    requires some { (1 ≤ inside) × (inside ≤ length cpus.old) }
-    requires inside { AreInside inside (runs_of known.now) cpus.old }
-    requires noted { AreNoted known.now cpus.old }
-    requires rising { AllPairs (λ (one : Entry) (other : Entry). one.id < other.id) known.now }
-    ensures same { SameModules locked.old locked.new × (pass.new ≡ pass.old) }
-    ensures users { All (λ (e : Entry). e.users ≡ 0) locked.new.area.entries }
-    ensures loaded { AreLoadedIn locked.new.area.entries known.now }
-    ensures known { AreAsKnown locked.new.area.entries known.now }
-    ensures outside { All (λ (c : CpuShown). c.part.runs ≡ []) cpus.new }
-    ensures rest { map outside cpus.new ≡ map outside cpus.old }
-{
+    // What the CPUs carry tells what the book must still have, and once they are out, that nobody is inside.
     locked.tell();
     locked.meet_all(pass, cpus);
     leave_all(locked, &mut cpus[..inside], known);
     locked.meet_all(pass, cpus);
+    locked.tell();
+    mark_unknown(locked, known);
+    clean_quiet_locked(locked, cpus);
+    locked.put_sections(sections, tags);
 }

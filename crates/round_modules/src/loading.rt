@@ -1,7 +1,8 @@
 //! A load of a trace.
 
 ghost use Rattle.std.specs.Prelude.{◌≡◌, ◌+◌, ◌≤◌, Err, MatchOption, None, Ok, OnErr, OnOk};
-ghost use Rattle.reclaim.specs.Loading.{early_refusal, loaded_as, tags_in};
+ghost use Rattle.reclaim.specs.Loading.{early_refusal, loaded_as};
+ghost use Rattle.tag_section.specs.Section.{tags_in};
 ghost use Rattle.module_area.specs.Area.{least_start};
 ghost use Rattle.round_modules.specs.Loads.{refusal_in};
 
@@ -45,6 +46,5 @@ fn start_for(locked: &Locked, size: u32) -> Option<u32>
     requires { 1 ≤ size }
     ensures { result ≡ least_start locked.now.area size }
 {
-    let _count = locked.book().count();
     locked.book().least_start(size)
 }

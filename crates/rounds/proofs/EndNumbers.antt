@@ -19,7 +19,8 @@ use Rattle.round_worker.specs.Shown.{WorkerShown}
 use Rattle.standing.specs.Standing.{WorkersStand}
 use Rattle.tag_rule.specs.Shown.{Board}
 use Rattle.trace_play.specs.Live.{Content}
-use Rattle.trace_play.specs.Machine.{Machine, content_cell, is_counted, live_cells, live_count, slab_cell, slab_cells}
+use Rattle.trace_play.specs.Machine.{Machine, content_cell, live_cells, live_count, slab_cell, slab_cells}
+use Rattle.tag_model.specs.Reference.{is_counted}
 use Rattle.trace_play.specs.Printed.{dead_of}
 use Rattle.trace_play.specs.Worker.{Seat}
 use Rattle.trace_play.proofs.AloneLemmas.{holds}

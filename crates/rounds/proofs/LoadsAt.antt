@@ -7,13 +7,13 @@ use Rattle.std.proofs.lemmas.List.Elements.{All-weaker}
 use Rattle.input_form.specs.declared.code.Code.{Code}
 use Rattle.input_form.specs.Judging.{◌>>=◌}
 use Rattle.input_form.proofs.Judged.{at_ok, bind_ok}
-use Rattle.tag_section.specs.Section.{Section}
+use Rattle.tag_section.specs.Section.{Section, tags_in}
 use Rattle.module_area.specs.declared.entry.Entry.{Entry}
 use Rattle.module_area.specs.declared.book.AreaError.TheVariants.{NoSection, SameName}
 use Rattle.module_area.specs.Area.{Area}
 use Rattle.module_area.specs.Entries.{id_loaded}
 use Rattle.tag_rule.specs.Shown.{PassShown}
-use Rattle.reclaim.specs.Loading.{early_refusal, loaded_as, tags_in}
+use Rattle.reclaim.specs.Loading.{early_refusal, loaded_as}
 use Rattle.reclaim.specs.State.{LockedShown}
 use Rattle.round_modules.specs.Loads.{refusal_in}
 use Rattle.round_modules.specs.Meant.{refused_as}

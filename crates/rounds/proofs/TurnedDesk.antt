@@ -1,4 +1,4 @@
--- A desk taken apart for its lanes, and put together with what they left.
+-- A desk behind its lanes, with the workers, the CPUs and the module list that they left.
 use Rattle.std.proofs.Common.{◌≡◌, List, length, map, sym, ap, ◌∙◌, subst}
 use Rattle.std.specs.Vec.{with_items}
 use Rattle.std.proofs.lemmas.List.{length-map, with_items_is}

@@ -34,38 +34,24 @@ impl Desk {
         requires { Begins ops.now self }
         ensures { (t : Turn) → t.ops ≡ ops.now → IsFirst t self → IfOk result (IsDealt t) }
     {
-        let Desk {
-            alloc,
-            mut cpus,
-            mut workers,
-            mut keys,
-            mut locked,
-            mut pass,
-            sections,
-            tags,
-        } = self;
-        let inside = workers.len();
-        let lanes = by_cpu(alloc, inside as u32, ops)?;
-        let mut known = entries_of(alloc, &locked)?;
-        equip(&mut keys, ops, workers.as_mut_slice(), known.as_slice())?;
+        let mut desk = self;
+        let inside = desk.workers.len();
+        let lanes = by_cpu(desk.alloc, inside as u32, ops)?;
+        let mut known = entries_of(desk.alloc, &desk.locked)?;
+        equip(
+            &mut desk.keys,
+            ops,
+            desk.workers.as_mut_slice(),
+            known.as_slice(),
+        )?;
         unload_known(ops, known.as_mut_slice());
         begin(
-            &mut locked,
-            &mut pass,
-            cpus.as_mut_slice(),
+            &mut desk.locked,
+            &mut desk.pass,
+            desk.cpus.as_mut_slice(),
             inside,
             known.as_slice(),
         );
-        let desk = Desk {
-            alloc,
-            cpus,
-            workers,
-            keys,
-            locked,
-            pass,
-            sections,
-            tags,
-        };
         Ok(Dealt { desk, lanes, known })
     }
 }

@@ -1,11 +1,10 @@
 //! A run ends: what its last line says, and what it leaves.
 
-ghost use Rattle.std.specs.Prelude.{◌≡◌, ◌^◌, ◌<◌, count_by, length, sum_by};
+ghost use Rattle.std.specs.Prelude.{◌≡◌, count_by, length};
 ghost use Rattle.module_area.specs.Entries.{is_dead};
 ghost use Rattle.module_area.specs.declared.entry.Entry.{Entry};
 ghost use Rattle.reclaim.specs.State.{IsLocked};
-ghost use Rattle.round_worker.specs.Shown.{WorkerShown};
-ghost use Rattle.trace_play.specs.Machine.{live_count, slab_cells};
+ghost use Rattle.trace_play.specs.Machine.{live_count};
 ghost use Rattle.trace_play.specs.Printed.{dead_of};
 ghost use Rattle.rounds.specs.Places.{IsSomewhere, IsThere, Place, machine_at};
 
@@ -13,7 +12,6 @@ use crate::Desk;
 use crate::settling::is_dead;
 use plant::Left;
 use reclaim::Locked;
-use round_worker::Worker;
 use run_text::Done;
 use tag_rule::CpuSeat;
 
@@ -34,9 +32,9 @@ impl Desk {
         Done {
             rounds,
             ops,
-            failed: failed_among(workers),
-            uncounted: uncounted_among(workers),
-            live: self.keys.counted() + slabs_among(workers),
+            failed: workers.iter().map(|worker| worker.failed()).sum(),
+            uncounted: workers.iter().map(|worker| worker.uncounted()).sum(),
+            live: self.keys.counted() + workers.iter().map(|worker| worker.slabs()).sum::<u64>(),
             kept: kept_in(&self.locked),
         }
     }
@@ -62,42 +60,6 @@ impl Desk {
         };
         (cpus, left)
     }
-}
-
-// How many allocations found no frames.
-fn failed_among(workers: &[Worker]) -> u64
-    requires { sum_by (λ (w : WorkerShown). w.failed) workers.now < 2 ^ 64 }
-    ensures { result ≡ sum_by (λ (w : WorkerShown). w.failed) workers.now }
-{
-    let mut failed = 0;
-    for worker in workers {
-        failed += worker.failed();
-    }
-    failed
-}
-
-// How many objects had no cell.
-fn uncounted_among(workers: &[Worker]) -> u64
-    requires { sum_by (λ (w : WorkerShown). w.uncounted) workers.now < 2 ^ 64 }
-    ensures { result ≡ sum_by (λ (w : WorkerShown). w.uncounted) workers.now }
-{
-    let mut uncounted = 0;
-    for worker in workers {
-        uncounted += worker.uncounted();
-    }
-    uncounted
-}
-
-// How many slabs there are.
-fn slabs_among(workers: &[Worker]) -> u64
-    requires { sum_by (λ (w : WorkerShown). length (slab_cells w.seat.node)) workers.now < 2 ^ 64 }
-    ensures { result ≡ sum_by (λ (w : WorkerShown). length (slab_cells w.seat.node)) workers.now }
-{
-    let mut slabs = 0;
-    for worker in workers {
-        slabs += worker.slabs();
-    }
-    slabs
 }
 
 // How many ranges are kept.

@@ -28,40 +28,21 @@ impl Turned {
         requires { IsAt IsTurned self }
         ensures { (t : Turn) → IsTurned t self → IfOk result (StandsAt t.board t.trace (round_done t.ops (first t))) }
     {
-        let Turned { desk, known } = self;
-        let Desk {
-            alloc,
-            mut cpus,
-            mut workers,
-            mut keys,
-            mut locked,
-            mut pass,
-            sections,
-            tags,
-        } = desk;
-        let inside = workers.len();
-        let shared = Arc::try_clone(&sections)?;
-        keys.take_back(workers.as_mut_slice())?;
-        meet_dead(&mut keys, &mut locked, known.as_slice());
+        let Turned { mut desk, known } = self;
+        let inside = desk.workers.len();
+        let shared = Arc::try_clone(&desk.sections)?;
+        desk.keys.take_back(desk.workers.as_mut_slice())?;
+        meet_dead(&mut desk.keys, &mut desk.locked, known.as_slice());
         end(
-            &mut locked,
-            &mut pass,
-            cpus.as_mut_slice(),
+            &mut desk.locked,
+            &mut desk.pass,
+            desk.cpus.as_mut_slice(),
             inside,
             known.as_slice(),
             shared,
-            tags,
+            desk.tags,
         );
-        Ok(Desk {
-            alloc,
-            cpus,
-            workers,
-            keys,
-            locked,
-            pass,
-            sections,
-            tags,
-        })
+        Ok(desk)
     }
 }
 

@@ -36,35 +36,19 @@ impl Dealt {
         requires { IsAt IsDealt self }
         ensures { (t : Turn) → IsDealt t self → IfOk result (IsTurned t) }
     {
-        let Dealt { desk, lanes, known } = self;
-        let Desk {
-            alloc,
-            mut cpus,
-            mut workers,
-            keys,
-            locked,
-            pass,
-            sections,
-            tags,
-        } = desk;
-        let locked = turn_lanes(
+        let Dealt {
+            mut desk,
+            lanes,
+            known,
+        } = self;
+        desk.locked = turn_lanes(
             rt,
             gate,
-            locked,
+            desk.locked,
             lanes.as_slice(),
-            workers.as_mut_slice(),
-            cpus.as_mut_slice(),
+            desk.workers.as_mut_slice(),
+            desk.cpus.as_mut_slice(),
         )?;
-        let desk = Desk {
-            alloc,
-            cpus,
-            workers,
-            keys,
-            locked,
-            pass,
-            sections,
-            tags,
-        };
         Ok(Turned { desk, known })
     }
 }
@@ -83,28 +67,12 @@ fn turn_lanes<R: Threads + Wait + Sync, G: Gate + Sync>(
     ensures turned { (t : Turn) → AreDealt t (map (λ lane. lane.items) lanes.now) workers.old cpus.old → OnOk result (AreTurned t workers.new cpus.old cpus.new) }
 {
     let first = &mut cpus[..workers.len()];
-    let locked = run_listed(rt, locked, gate, lanes, workers, first)?;
+    let locked = run_named::<Brand, R, G>(rt, locked, gate, lanes, workers, first)?;
     bring_home(workers, first);
     Ok(locked)
 }
 
-// The lanes run with the module list behind its lock.
-fn run_listed<R: Threads + Wait + Sync, G: Gate + Sync>(
-    rt: &R,
-    locked: Locked,
-    gate: &G,
-    lanes: &[Vec<OnOp>],
-    workers: &mut [Worker],
-    cpus: &mut [CpuSeat],
-) -> Result<Locked, AllocError>
-    requires ready { AreReady (map (λ lane. lane.items) lanes.now) workers.old cpus.old }
-    ensures board { IfOk result (λ after. after.board ≡ locked.board) }
-    ensures done { OnOk result (AreDone (map (λ lane. lane.items) lanes.now) workers.old workers.new cpus.old cpus.new) }
-{
-    run_named::<Brand, R, G>(rt, locked, gate, lanes, workers, cpus)
-}
-
-// The same, of a table that has a name.
+// The lanes run with the module list behind its lock, of a table that has a name.
 fn run_named<N: Name + Send + Sync, R: Threads + Wait + Sync, G: Gate + Sync>(
     rt: &R,
     locked: Locked,

@@ -21,6 +21,7 @@ use Rattle.trace_play.specs.Machine.{Machine}
 use Rattle.trace_play.specs.Play.{Outcome, Played, item_played, nothing_played, play, played_so_far, refusal_of, section_len}
 use Rattle.trace_play.proofs.Rising.{fold_keeps}
 use Rattle.input_form.specs.declared.code.Code.{Code}
+use Rattle.round_check.proofs.Pairs.{all_front}
 
 -- the entry is that of a module's section, and has its length
 abbrev pub IsOfModule : List Section → Entry → Type 0
@@ -82,13 +83,9 @@ module _ (trace : Trace) (top : Option ℕ) where
         | Some w ↦ all
       ]
 
-front_all : {X : Type 0} (P : X → Type 0) (front back : List X) → All P (front ++ back) → All P front
-front_all P [] back all = All-nil P
-front_all P (x ∷ front) back all = All-cons P x front (All-head P x (front ++ back) all) (front_all P front back (All-tail P x (front ++ back) all))
-
 pub entries_of_modules : (trace : Trace) (top : Option ℕ) → IsFormedTrace trace → (front back : List Item) → trace.body ≡ front ++ back
     → All (IsOfModule trace.sections) (played_so_far trace top front).played.machine.area.entries
 entries_of_modules trace top formed front back stands =
     items_hold trace top front (nothing_played trace)
-    (front_all (IsFormedItem trace.cpus trace.sections) front back (subst (All (IsFormedItem trace.cpus trace.sections)) stands formed.items))
+    (all_front (IsFormedItem trace.cpus trace.sections) front back (subst (All (IsFormedItem trace.cpus trace.sections)) stands formed.items))
     (All-nil (IsOfModule trace.sections))

@@ -45,13 +45,13 @@ use Rattle.trace_cover.specs.Cover.{is_quiet_at, is_quiet_range}
 use Rattle.trace_cover.proofs.Holds.{Covered, before_cleaning}
 use Rattle.trace_cover.proofs.Items.{AtRound, at_round}
 use Rattle.trace_cover.proofs.Quiet.{Counts, counts_at}
-use Rattle.trace_cover.proofs.RoundMay.{cpus_area}
 use Rattle.trace_cover.proofs.Told.{play_round, round_counted, round_few, round_tells}
 use Rattle.trace_play.specs.Ready.{IsReady}
 use Rattle.round_check.specs.declared.walk.Walk.{Walk}
 use Rattle.standing.specs.Standing.{CpusStand, HasRoomFor, RoundOf, first_of}
 use Rattle.standing.specs.Turning.{home_of_round}
 use Rattle.standing.proofs.EndTotals.{total_is, total_past}
+use Rattle.trace_play.proofs.ReadyHolds.{cpus_area}
 
 -- ---- what came home changes no module and no key
 

@@ -36,9 +36,9 @@ use Rattle.trace_play.specs.Play.{ops_in, section_len}
 use Rattle.trace_play.specs.Ready.{MayCount, runs_inside}
 use Rattle.trace_play.proofs.TraceFits.{seats_count}
 use Rattle.trace_cover.specs.Cover.{IsOfSection}
-use Rattle.trace_cover.proofs.Counts.{few_ops, front_counts}
+use Rattle.trace_cover.proofs.Counts.{front_counts}
+use Rattle.trace_play.proofs.Numbers.{few_ops}
 use Rattle.trace_cover.proofs.Items.{AtRound, at_round}
-use Rattle.trace_cover.proofs.RoundMay.{cpus_area}
 use Rattle.trace_cover.proofs.Told.{round_stays}
 use Rattle.module_area.proofs.EntryLemmas.{find_some}
 use Rattle.standing.specs.Standing.{CpusStand, HasRoomFor, RoundOf, WorkersStand, first_of}
@@ -46,6 +46,7 @@ use Rattle.standing.specs.Turning.{dealt}
 use Rattle.standing.proofs.CpusMoved.{stand_at, stand_long}
 use Rattle.standing.proofs.DoneLanes.{dealt_at, dealt_long}
 use Rattle.standing.proofs.RunFound.{run_found}
+use Rattle.trace_play.proofs.ReadyHolds.{cpus_area}
 
 -- ---- what is found
 
@@ -171,7 +172,7 @@ module _ (trace : Trace) (top : Option ℕ) (ops : List OnOp) (r : RoundOf trace
   few_counted : (i : ℕ) (x : WorkerShown) → i < trace.cpus → ((get_or workers i x).failed + length ops < 2 ^ 64) × ((get_or workers i x).uncounted + length ops < 2 ^ 64)
   few_counted i x low =
       let most = front_counts trace top r.round.front (item.Round ops ∷ r.round.back) r.round.stands r.formed.lines in
-      let few = subst (λ items. sum_by ops_in items ≤ 131072) r.round.stands (few_ops trace.body r.formed.lines) in
+      let few = subst (λ items. sum_by ops_in items ≤ 131071) r.round.stands (few_ops trace.body r.formed.lines) in
       let short = round_short r.round.front r.round.back ops in
       let f = get_or-le-sum_by (λ (y : WorkerShown). y.failed) workers i x (omega (arith, low, many)) in
       let u = get_or-le-sum_by (λ (y : WorkerShown). y.uncounted) workers i x (omega (arith, low, many)) in

@@ -7,8 +7,8 @@ slice_bounds-first-end g c = let s = c.requires.dealt in few s.turn _ _ _ s.is
 pub slice_bounds-first-end-2 : goal.slice_bounds-first-end-2
 slice_bounds-first-end-2 g c = let s = c.requires.dealt in taken s.turn _ _ _ s.is
 
-pub run_listed-requires-clause-ready : goal.run_listed-requires-clause-ready
-run_listed-requires-clause-ready g c κs within = let s = c.requires.dealt in lanes_ready s.turn _ _ _ s.is
+pub run_named-requires-clause-ready : goal.run_named-requires-clause-ready
+run_named-requires-clause-ready g c κs within = let s = c.requires.dealt in lanes_ready s.turn _ _ _ s.is
 
 pub bring_home-requires-clause-beside : goal.bring_home-requires-clause-beside
 bring_home-requires-clause-beside g c = let s = c.requires.dealt in beside_left s.turn _ _ _ s.is _ _ c.in_ok-locked.ensures.done

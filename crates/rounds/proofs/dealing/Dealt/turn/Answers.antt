@@ -12,4 +12,4 @@ turn_lanes-requires-clause-dealt g c κs within = record {
 pub returns : goal.returns
 returns g c = λ t is.
     let given = dealt_parts t c.args.self is _ _ _ (ap (map (λ (lane : Vec OnOp Global). lane.items)) c.as_slice.ensures.value) c.as_mut_slice.ensures.value c.as_mut_slice-2.ensures.value in
-    desk_turned t c.args.self is _ _ _ c.in_ok-locked.locked c.as_mut_slice-2.ensures.value c.in_ok-locked.ensures.board (c.in_ok-locked.ensures.turned t given)
+    desk_turned t c.args.self is _ _ _ c.in_ok-desk.field-0 c.as_mut_slice-2.ensures.value c.in_ok-desk.ensures.board (c.in_ok-desk.ensures.turned t given)
