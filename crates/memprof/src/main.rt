@@ -5,10 +5,10 @@ ghost use Rattle.std.specs.Prelude.{ℕ, List, ◌≡◌, ◌≢◌, ◌<◌, �
 ghost use Rattle.std.specs.Option.{option_copied};
 ghost use Rattle.std.specs.String.{string_bytes};
 ghost use Rattle.std.specs.Io.KnownBytes.{Appends};
-ghost use Rattle.outside.specs.Faults.{Rose};
 ghost use Rattle.tag_model.specs.Index.{program_shape};
 ghost use Rattle.trace_play.specs.Answer.{run_answer};
 ghost use Rattle.profile_top.specs.declared.mode.Mode.{Mode};
+ghost use Rattle.profile_top.specs.Answers.{TellsFaults};
 ghost use Rattle.profile_top.specs.Commands.{Command, Still, Run, CommandServed, CommandServedInPart, IsRunnable, command_answer, command_of};
 ghost use Rattle.trace_run.specs.Runs.{HasRun};
 ghost use Rattle.memprof.specs.Unread.{status_of};
@@ -91,10 +91,8 @@ fn serve<R: Threads + Wait + Sync, G: Gate + Sync, S: Source, K: Sink>(
         → CommandServedInPart command (S.left source.old) (S.left source.new) (K.taken sink.old) (K.taken sink.new) plant.old plant.new) }
     ensures range { result < 6 }
     ensures silent { (result ≡ 2) ⊎ (result ≡ 3) ⊎ (result ≡ 4) → sink.new ≡ sink.old }
-    ensures read_fault { result ≡ 4 → Rose (S.faults source.old) (S.faults source.new) }
-    ensures write_fault { result ≡ 5 → Rose (K.faults sink.old) (K.faults sink.new) }
-    ensures no_read_fault { result ≢ 4 → S.faults source.new ≡ S.faults source.old }
-    ensures no_write_fault { result ≢ 5 → K.faults sink.new ≡ K.faults sink.old }
+    ensures read_faults { TellsFaults 4 result (S.faults source.old) (S.faults source.new) }
+    ensures write_faults { TellsFaults 5 result (K.faults sink.old) (K.faults sink.new) }
     // The plant: only `run` changes it, and only where the input's trace is run.
     ensures still { IfOk arguments (λ all. (mode : Mode) → command_of (map string_bytes (drop 1 all.items)) ≡ Some (Still mode) → plant.new ≡ plant.old) }
     ensures plant { (result ≡ 2) ⊎ (result ≡ 4) → plant.new ≡ plant.old }

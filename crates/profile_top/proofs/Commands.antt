@@ -1,17 +1,14 @@
 -- What the words ask for, and what is served for it.
-use Rattle.std.proofs.Common.{◌≡◌, ◌≢◌, ℕ, ◌+◌, ◌<◌, ◌≤◌, ◌⊎◌, inl, inr, Bool, true, false, List, [], ◌∷◌, length, Option, Some, None, refl, sym, ap, ◌∙◌, subst, arith, codes}
-use Rattle.std.specs.Prelude.{◌↔◌, if◌then◌else◌, option_map}
-use Rattle.std.specs.Cmp.Lexicographic.{bytes_decides}
-use Rattle.std.specs.Io.KnownBytes.{Appends, Consumes, IsAtEnd}
-use Rattle.outside.specs.Bytes.{AppendsPrefix, Took}
-use Rattle.outside.specs.declared.faults.ReadError.TheVariants.{TooLong}
+use Rattle.std.proofs.Common.{◌≡◌, ℕ, ◌<◌, ◌≤◌, ◌⊎◌, inl, inr, Bool, false, List, length, Option, Some, None, refl, sym, ap, ◌∙◌, subst, arith}
+use Rattle.std.specs.Prelude.{if◌then◌else◌, option_map}
+use Rattle.std.specs.Io.KnownBytes.{Consumes, IsAtEnd}
+use Rattle.outside.specs.Bytes.{AppendsPrefix}
 use Rattle.plant.specs.Table.{PlantShown}
 use Rattle.trace_play.specs.Answer.{run_answer}
 use Rattle.profile_top.specs.declared.answer.Answer.{Answer}
 use Rattle.profile_top.specs.declared.mode.Mode.{Mode}
-use Rattle.profile_top.specs.Answers.{Gives, IsInput, Served, ServedInPart, Written, input_limit, mode_of, too_long}
-use Rattle.profile_top.specs.Commands.{Command, Still, Run, CommandServed, CommandServedInPart, IsRunnable, RunLeaves, command_answer, command_in, command_of, is_run, written_of}
-use Rattle.profile_top.proofs.Running.{run_below}
+use Rattle.profile_top.specs.Answers.{Gives, Served, ServedInPart, Written, input_limit, mode_of}
+use Rattle.profile_top.specs.Commands.{Command, Still, Run, CommandServed, CommandServedInPart, RunLeaves, command_answer, command_in, command_of, is_run, written_of}
 use Rattle.profile_top.proofs.Serving.{short_answer}
 
 -- ---- words
@@ -57,9 +54,6 @@ run_in_part_read left left_after taken taken_after read answer old new consumes 
       written = subst (AppendsPrefix taken taken_after) (gives.text ∙ sym (ap (λ (w : Written). w.text) is)) part;
       leaves = leaves;
     }
-
-pub gives_below : (read : List ℕ) (answer : Answer) → Gives answer (written_of (run_answer None read)) → answer.status < 2
-gives_below read answer gives = let below : (run_answer None read).status < 2 = run_below read in let same : answer.status ≡ (run_answer None read).status = gives.status in omega (arith, below, same)
 
 -- ---- the plant behind a `run`
 

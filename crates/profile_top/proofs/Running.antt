@@ -1,5 +1,5 @@
 -- What a run answers.
-use Rattle.std.proofs.Common.{◌≡◌, ℕ, ◌<◌, ◌≤◌, ◌==◌, ◌⊎◌, inl, inr, Bool, true, false, List, [], ◌∷◌, ◌++◌, length, Option, Some, None, Result, Ok, Err, refl, sym, ap, ◌∙◌, subst, arith, codes, decimal}
+use Rattle.std.proofs.Common.{◌≡◌, ℕ, ◌≤◌, ◌==◌, ◌⊎◌, inl, inr, Bool, true, false, List, [], ◌∷◌, ◌++◌, length, Option, Some, None, Result, Ok, Err, refl, sym, ap, ◌∙◌, subst, codes, decimal}
 use Rattle.std.specs.Prelude.{⊤, MatchResult, if◌then◌else◌}
 use Rattle.tag_section.specs.Section.{names_of}
 use Rattle.module_area.specs.Area.{least_start}
@@ -114,24 +114,6 @@ leaves_run input trace old new within e r has = record {
     by_end : (text : Result (List ℕ) (ℕ × Code)) → HasRun (answered (names_of trace.sections) (trace_played trace None).played.machine text).machine old new
     by_end (Ok text) = has
     by_end (Err why) = has
-
--- ---- statuses
-
-answered_below : (names : List (List ℕ)) (m : Machine) (text : Result (List ℕ) (ℕ × Code)) → (answered names m text).status < 2
-answered_below names m (Ok text) = omega arith
-answered_below names m (Err why) = omega arith
-
-checked_below : (trace : Trace) (rounds : Result ⊤ (ℕ × Code)) → (checked_answer None trace rounds).status < 2
-checked_below trace (Ok done) = answered_below (names_of trace.sections) (trace_played trace None).played.machine (unless_refused (run_text trace (trace_played trace None).played) (trace_played trace None).refused)
-checked_below trace (Err why) = omega arith
-
-formed_below : (r : Result Trace (ℕ × Code)) → (formed_answer None r).status < 2
-formed_below (Ok trace) = checked_below trace (rounds_of trace)
-formed_below (Err why) = omega arith
-
-pub run_below : (input : List ℕ) → (run_answer None input).status < 2
-unfolding run_answer
-run_below input = formed_below (trace_of input)
 
 -- ---- spelled out
 

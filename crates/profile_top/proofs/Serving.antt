@@ -4,8 +4,7 @@ use Rattle.std.specs.Io.KnownBytes.{Consumes, Appends, IsAtEnd}
 use Rattle.profile_top.specs.declared.answer.Answer.{Answer}
 use Rattle.outside.specs.Bytes.{Took}
 use Rattle.outside.specs.declared.faults.ReadError.TheVariants.{TooLong}
-use Rattle.profile_top.specs.declared.mode.Mode.{Mode}
-use Rattle.profile_top.specs.Answers.{Gives, Written, answer_of, answer_in, input_limit, too_long}
+use Rattle.profile_top.specs.Answers.{Gives, Written, input_limit, too_long}
 
 -- what is written for an input, by what is written for one that isn't too long
 abbrev pub limited : (List ℕ → Written) → List ℕ → Written
@@ -58,12 +57,3 @@ decided_read old new taken taken_after read status answer short consumes end wit
     let answered : limited short input ≡ short read = ap (limited short) (sym same) ∙ short_answer short read within in
     let w = whole not_five in
     rw answered (w.0 ∙ gives.status, subst (Appends taken taken_after) gives.text w.1)
-
--- the same of the mode that was asked for
-pub decided_mode : (old new taken taken_after : Option (List ℕ)) (read : List ℕ) (status : ℕ) (answer : Answer) (words : Option Mode) (asked : Mode) → Consumes old new read → IsAtEnd new → length read ≤ input_limit
-    → words ≡ Some asked → Gives answer (answer_in asked read) → (status ≢ 5 → (status ≡ answer.status) × Appends taken taken_after answer.text.items)
-    → (mode : Mode) (input : List ℕ) → words ≡ Some mode → old ≡ Some input → status < 2 → (status ≡ (answer_of mode input).status) × Appends taken taken_after (answer_of mode input).text
-decided_mode old new taken taken_after read status answer words asked consumes end within is_asked gives whole mode input is_mode e below =
-    let one : Some asked ≡ Some mode = sym is_asked ∙ is_mode in
-    let modes : asked ≡ mode = cc in
-    decided_read old new taken taken_after read status answer (answer_in mode) consumes end within (subst (λ (m : Mode). Gives answer (answer_in m read)) modes gives) whole input e below

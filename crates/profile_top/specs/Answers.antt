@@ -1,8 +1,9 @@
 -- What is written for an input, and the status.
-use Rattle.std.specs.Prelude.{◌≡◌, ℕ, ◌++◌, ◌+◌, ◌⊎◌, ⊤, Bool, Option, Some, None, Result, Ok, Err, List, [], ◌∷◌, length, codes, decimal, nat_lt, if◌then◌else◌}
+use Rattle.std.specs.Prelude.{◌≡◌, ◌≢◌, ℕ, ◌++◌, ◌+◌, ◌≤◌, ◌⊎◌, ⊤, Bool, Option, Some, None, Result, Ok, Err, List, [], ◌∷◌, length, codes, decimal, nat_lt, if◌then◌else◌}
 use Rattle.std.specs.Str.{bytes_eq}
 use Rattle.std.specs.Io.KnownBytes.{Appends, Consumes, IsAtEnd}
 use Rattle.outside.specs.Bytes.{AppendsPrefix}
+use Rattle.outside.specs.Faults.{Rose}
 use Rattle.tag_section.specs.Section.{names_of}
 use Rattle.text_form.specs.Lines.{lines_of}
 use Rattle.input_form.specs.declared.code.Code.{Code}
@@ -147,3 +148,10 @@ pub record ServedInPart (mode : Mode) (left left_after taken taken_after : Optio
   pub input : List ℕ
   pub is_input : IsInput left left_after input
   pub written : AppendsPrefix taken taken_after (answer_of mode input).text
+
+-- A status tells of one side's faults: where it is this one, the count of faults rose, and at every other the count is
+-- as it was. It never falls.
+pub record TellsFaults (this status count count_after : ℕ) : Type 0 where
+  pub rose : status ≡ this → Rose count count_after
+  pub steady : status ≢ this → count_after ≡ count
+  pub kept : count ≤ count_after

@@ -1,10 +1,14 @@
-//! The command `check`: whether an input is of its form, and the rounds of a trace as they may be.
+//! The command `check`: whether an input is of its form, and the rounds of a trace as they may be. A `run` begins so too.
 
-ghost use Rattle.std.specs.Prelude.{◌≡◌, ◌++◌, ◌≤◌, length, IfOk, OnOk};
+ghost use Rattle.std.specs.Prelude.{◌≡◌, ◌++◌, ◌≤◌, None, Ok, length, IfOk, IfErr, OnOk, OnErr};
 ghost use Rattle.text_form.specs.Lines.{lines_of};
 ghost use Rattle.step_text.specs.StepReading.{steps_of};
+ghost use Rattle.trace.specs.Formed.{IsFormedTrace};
 ghost use Rattle.trace.specs.TraceReading.{trace_of};
+ghost use Rattle.round_check.specs.Walk.{rounds_of};
+ghost use Rattle.trace_play.specs.Answer.{run_answer};
 ghost use Rattle.profile_top.specs.Answers.{Gives, ok_text, all_well, is_schedule, steps_checked, trace_checked, checked};
+ghost use Rattle.profile_top.specs.Commands.{IsRunnable, written_of};
 
 use crate::answer::{Answer, refusal};
 use codetag::write_number;
@@ -12,7 +16,7 @@ use round_check::check_rounds;
 use std::alloc::{AllocError, Global};
 use tag_section::Sections;
 use text_form::next_line;
-use trace::{TextError, read_steps, read_trace};
+use trace::{TextError, Trace, read_steps, read_trace};
 
 /// How many lines a text has.
 fn line_count(text: &[u8]) -> u64
@@ -66,21 +70,41 @@ fn check_steps(alloc: Global, input: &[u8]) -> Result<Answer, AllocError>
     }
 }
 
-fn check_trace(alloc: Global, input: &[u8]) -> Result<Answer, AllocError>
+/// The trace that an input spells, if its rounds are as they may be. Else the answer, which is that of `check` and of `run`.
+pub(crate) fn checked_trace(
+    alloc: Global,
+    input: &[u8],
+) -> Result<Result<Trace, Answer>, AllocError>
     requires { length input.now ≤ 4194304 }
-    ensures { IfOk result (λ answer. Gives answer (trace_checked input.now (trace_of input.now))) }
+    ensures form { IfOk result (λ found. IfOk found (λ trace. IsFormedTrace trace × (trace_of input.now ≡ Ok trace))) }
+    ensures rounds { IfOk result (λ found. IfOk found (λ trace. rounds_of trace ≡ Ok tt)) }
+    ensures check { IfOk result (λ found. IfErr found (λ answer. Gives answer (trace_checked input.now (trace_of input.now)))) }
+    ensures run { IfOk result (λ found. IfErr found (λ answer. (answer.status ≡ 1) × Gives answer (written_of (run_answer None input.now)))) }
+    ensures not_run { IfOk result (λ found. OnErr found (¬ IsRunnable input.now)) }
 {
     let trace = match read_trace(alloc, input) {
         Ok(trace) => trace,
         Err(TextError::Refused { line, code }) => {
-            return refusal(alloc, &Sections::new(alloc), line, code);
+            return Ok(Err(refusal(alloc, &Sections::new(alloc), line, code)?));
         }
         Err(TextError::Memory(error)) => return Err(error),
     };
     match check_rounds(alloc, &trace) {
-        Ok(()) => all_well(alloc, input),
-        Err(TextError::Refused { line, code }) => refusal(alloc, &trace.sections, line, code),
+        Ok(()) => Ok(Ok(trace)),
+        Err(TextError::Refused { line, code }) => {
+            Ok(Err(refusal(alloc, &trace.sections, line, code)?))
+        }
         Err(TextError::Memory(error)) => Err(error),
+    }
+}
+
+fn check_trace(alloc: Global, input: &[u8]) -> Result<Answer, AllocError>
+    requires { length input.now ≤ 4194304 }
+    ensures { IfOk result (λ answer. Gives answer (trace_checked input.now (trace_of input.now))) }
+{
+    match checked_trace(alloc, input)? {
+        Ok(_trace) => all_well(alloc, input),
+        Err(answer) => Ok(answer),
     }
 }
 

@@ -1,6 +1,6 @@
 //! The commands `files` and `modules`: the rows of allocinfo in groups.
 
-ghost use Rattle.std.specs.Prelude.{◌≡◌, ◌++◌, ◌≤◌, length, map, IfOk, OnOk};
+ghost use Rattle.std.specs.Prelude.{◌≡◌, ◌++◌, ◌≤◌, length, IfOk, OnOk};
 ghost use Rattle.info_read.specs.Reading.{rows_of};
 ghost use Rattle.info_group.specs.Keys.{key_of};
 ghost use Rattle.profile_top.specs.Answers.{Gives, info_refusal_text, info_refused, listed, grouped};

@@ -15,6 +15,8 @@ pub use still::{INPUT_LIMIT, memprof_still};
 pub use top::memprof;
 
 #[cfg(test)]
+mod bench;
+#[cfg(test)]
 mod meeting_tests;
 #[cfg(test)]
 mod run_tests;

@@ -1,5 +1,5 @@
 use super::*;
-use outside::{MemSink, MemSource};
+use crate::bench::{owned, sink_of, source_of};
 use plant::Plant;
 use round_worker::Gate;
 use std::alloc::Global;
@@ -64,10 +64,9 @@ fn run_gated<R: Threads + Wait + Sync, G: Gate + Sync>(
     gate: &G,
     input: &[u8],
 ) -> Result<u8, Fail> {
-    let mut words = Vec::new(alloc);
-    words.push(String::from_str(alloc, "run")?)?;
-    let mut source = MemSource::new(input.to_vec(alloc)?, Vec::new(alloc), 64);
-    let mut sink = MemSink::new(alloc, 100, Vec::new(alloc), 64)?;
+    let words = owned(alloc, &["run"])?;
+    let mut source = source_of(alloc, input, &[])?;
+    let mut sink = sink_of(alloc, &[])?;
     let mut plant = Plant::new(alloc, Shape::program())?;
     Ok(memprof(
         rt,

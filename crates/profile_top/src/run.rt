@@ -3,7 +3,6 @@
 ghost use Rattle.std.specs.Prelude.{◌≡◌, ◌<◌, ◌≤◌, IsTrue, None, Ok, length, IfOk, OnOk};
 ghost use Rattle.tag_model.specs.Index.{program_shape};
 ghost use Rattle.trace.specs.Formed.{IsFormedTrace};
-ghost use Rattle.trace.specs.TraceReading.{trace_of};
 ghost use Rattle.round_check.specs.Walk.{rounds_of};
 ghost use Rattle.trace_play.specs.Answer.{checked_answer, run_answer};
 ghost use Rattle.trace_play.specs.Play.{trace_played};
@@ -12,14 +11,14 @@ ghost use Rattle.profile_top.specs.Commands.{IsRunnable, RunLeaves, written_of};
 ghost use Rattle.trace_run.specs.Runs.{HasRun};
 
 use crate::answer::{Answer, refusal};
+use crate::check::checked_trace;
 use plant::Plant;
-use round_check::check_rounds;
 use round_worker::Gate;
 use std::alloc::{AllocError, Global};
 use std::sync::Wait;
 use std::thread::Threads;
 use tag_section::Sections;
-use trace::{TextError, Trace, read_trace};
+use trace::Trace;
 use trace_run::{RunError, run};
 
 // What a trace prints, or the `load` line that is refused, whose code names no module.
@@ -61,16 +60,8 @@ pub(crate) fn run_answer<R: Threads + Wait + Sync, G: Gate + Sync>(
     ensures leaves { OnOk result (RunLeaves input.now plant.old plant.new) }
     ensures not_run { ¬ IsRunnable input.now → plant.new ≡ plant.old }
 {
-    let trace = match read_trace(alloc, input) {
-        Ok(trace) => trace,
-        Err(TextError::Refused { line, code }) => {
-            return refusal(alloc, &Sections::new(alloc), line, code);
-        }
-        Err(TextError::Memory(error)) => return Err(error),
-    };
-    match check_rounds(alloc, &trace) {
-        Ok(()) => trace_answer(rt, alloc, plant, gate, trace),
-        Err(TextError::Refused { line, code }) => refusal(alloc, &trace.sections, line, code),
-        Err(TextError::Memory(error)) => Err(error),
+    match checked_trace(alloc, input)? {
+        Ok(trace) => trace_answer(rt, alloc, plant, gate, trace),
+        Err(answer) => Ok(answer),
     }
 }

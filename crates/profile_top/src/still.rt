@@ -8,9 +8,9 @@ ghost use Rattle.outside.specs.Bytes.{AppendsPrefix, TookWithin};
 ghost use Rattle.profile_top.specs.declared.mode.Mode.{Mode};
 ghost use Rattle.info_group.specs.Keys.{file_key, module_key};
 ghost use Rattle.profile_top.specs.Spelled.{ServedBy, SentInPart, StepSays, CheckSays, GroupsSay};
-ghost use Rattle.profile_top.specs.Answers.{input_limit, mode_of, answer_of, Served, ServedInPart};
+ghost use Rattle.profile_top.specs.Answers.{input_limit, mode_of, answer_of, Served, ServedInPart, TellsFaults};
 
-use crate::mode::{answer_input, mode_of};
+use crate::mode::{Mode, answer_input, mode_of};
 use outside::{ReadError, Sink, Source, read_all, write_all};
 use std::alloc::Global;
 
@@ -47,16 +47,12 @@ pub fn memprof_still<S: Source, K: Sink>(
     ensures decided { (mode : Mode) (input : List ℕ) → mode_of (map string_bytes words.now) ≡ Some mode → S.left source.old ≡ Some input → result < 2
         → (result ≡ (answer_of mode input).status) × Appends (K.taken sink.old) (K.taken sink.new) (answer_of mode input).text }
     ensures in_part { (mode : Mode) → mode_of (map string_bytes words.now) ≡ Some mode → result ≡ 5 → ServedInPart mode (S.left source.old) (S.left source.new) (K.taken sink.old) (K.taken sink.new) }
-    ensures read_fault { result ≡ 4 → Rose (S.faults source.old) (S.faults source.new) }
-    ensures write_fault { result ≡ 5 → Rose (K.faults sink.old) (K.faults sink.new) }
-    ensures complete { (mode : Mode) → mode_of (map string_bytes words.now) ≡ Some mode → ¬ Rose (S.faults source.old) (S.faults source.new) → ¬ Rose (K.faults sink.old) (K.faults sink.new) → result ≢ 3 → result < 2 }
-    ensures faults { (S.faults source.old ≤ S.faults source.new) × (K.faults sink.old ≤ K.faults sink.new) }
     // No call of the source or the sink failed, but where the status says so.
-    ensures no_read_fault { result ≢ 4 → S.faults source.new ≡ S.faults source.old }
-    ensures no_write_fault { result ≢ 5 → K.faults sink.new ≡ K.faults sink.old }
+    ensures read_faults { TellsFaults 4 result (S.faults source.old) (S.faults source.new) }
+    ensures write_faults { TellsFaults 5 result (K.faults sink.old) (K.faults sink.new) }
+    ensures complete { (mode : Mode) → mode_of (map string_bytes words.now) ≡ Some mode → ¬ Rose (S.faults source.old) (S.faults source.new) → ¬ Rose (K.faults sink.old) (K.faults sink.new) → result ≢ 3 → result < 2 }
     // Where memory ran out or reading failed, no more was read than an input may have.
-    ensures within { result ≡ 3 → TookWithin input_limit (S.left source.old) (S.left source.new) }
-    ensures fault_within { result ≡ 4 → TookWithin input_limit (S.left source.old) (S.left source.new) }
+    ensures within { (result ≡ 3) ⊎ (result ≡ 4) → TookWithin input_limit (S.left source.old) (S.left source.new) }
     // What is served, spelled out by the word.
     ensures step { map string_bytes words.now ≡ codes "step" ∷ [] → result < 2 → ServedBy StepSays result (S.left source.old) (S.left source.new) (K.taken sink.old) (K.taken sink.new) }
     ensures check { map string_bytes words.now ≡ codes "check" ∷ [] → result < 2 → ServedBy CheckSays result (S.left source.old) (S.left source.new) (K.taken sink.old) (K.taken sink.new) }
@@ -68,33 +64,24 @@ pub fn memprof_still<S: Source, K: Sink>(
     ensures files_in_part { map string_bytes words.now ≡ codes "files" ∷ [] → result ≡ 5 → SentInPart (GroupsSay file_key) (S.left source.old) (S.left source.new) (K.taken sink.old) (K.taken sink.new) }
     ensures modules_in_part { map string_bytes words.now ≡ codes "modules" ∷ [] → result ≡ 5 → SentInPart (GroupsSay module_key) (S.left source.old) (S.left source.new) (K.taken sink.old) (K.taken sink.new) }
 {
-    serve(alloc, words, source, sink)
+    match mode_of(words) {
+        Some(mode) => serve(alloc, mode, source, sink),
+        None => 2,
+    }
 }
 
-// The same, by the definition of each answer.
-fn serve<S: Source, K: Sink>(alloc: Global, words: &[String], source: &mut S, sink: &mut K) -> u8
-    ensures range { result < 6 }
-    ensures words { (result ≡ 2) ↔ (mode_of (map string_bytes words.now) ≡ None) }
-    ensures unread { result ≡ 2 → source.new ≡ source.old }
-    ensures silent { (result ≡ 2) ⊎ (result ≡ 3) ⊎ (result ≡ 4) → sink.new ≡ sink.old }
-    ensures served { (mode : Mode) → mode_of (map string_bytes words.now) ≡ Some mode → result < 2 → Served mode result (S.left source.old) (S.left source.new) (K.taken sink.old) (K.taken sink.new) }
-    ensures decided { (mode : Mode) (input : List ℕ) → mode_of (map string_bytes words.now) ≡ Some mode → S.left source.old ≡ Some input → result < 2
+// Serves one of them, by the definition of its answer.
+fn serve<S: Source, K: Sink>(alloc: Global, mode: Mode, source: &mut S, sink: &mut K) -> u8
+    ensures range { (result < 6) × (result ≢ 2) }
+    ensures silent { (result ≡ 3) ⊎ (result ≡ 4) → sink.new ≡ sink.old }
+    ensures served { result < 2 → Served mode result (S.left source.old) (S.left source.new) (K.taken sink.old) (K.taken sink.new) }
+    ensures decided { (input : List ℕ) → S.left source.old ≡ Some input → result < 2
         → (result ≡ (answer_of mode input).status) × Appends (K.taken sink.old) (K.taken sink.new) (answer_of mode input).text }
-    ensures in_part { (mode : Mode) → mode_of (map string_bytes words.now) ≡ Some mode → result ≡ 5 → ServedInPart mode (S.left source.old) (S.left source.new) (K.taken sink.old) (K.taken sink.new) }
-    ensures read_fault { result ≡ 4 → Rose (S.faults source.old) (S.faults source.new) }
-    ensures write_fault { result ≡ 5 → Rose (K.faults sink.old) (K.faults sink.new) }
-    ensures complete { (mode : Mode) → mode_of (map string_bytes words.now) ≡ Some mode → ¬ Rose (S.faults source.old) (S.faults source.new) → ¬ Rose (K.faults sink.old) (K.faults sink.new) → result ≢ 3 → result < 2 }
-    ensures faults { (S.faults source.old ≤ S.faults source.new) × (K.faults sink.old ≤ K.faults sink.new) }
-    // No call of the source or the sink failed, but where the status says so.
-    ensures no_read_fault { result ≢ 4 → S.faults source.new ≡ S.faults source.old }
-    ensures no_write_fault { result ≢ 5 → K.faults sink.new ≡ K.faults sink.old }
-    // Where memory ran out or reading failed, no more was read than an input may have.
-    ensures within { result ≡ 3 → TookWithin input_limit (S.left source.old) (S.left source.new) }
-    ensures fault_within { result ≡ 4 → TookWithin input_limit (S.left source.old) (S.left source.new) }
+    ensures in_part { result ≡ 5 → ServedInPart mode (S.left source.old) (S.left source.new) (K.taken sink.old) (K.taken sink.new) }
+    ensures read_faults { TellsFaults 4 result (S.faults source.old) (S.faults source.new) }
+    ensures write_faults { TellsFaults 5 result (K.faults sink.old) (K.faults sink.new) }
+    ensures within { (result ≡ 3) ⊎ (result ≡ 4) → TookWithin input_limit (S.left source.old) (S.left source.new) }
 {
-    let Some(mode) = mode_of(words) else {
-        return 2;
-    };
     let input = match read_all(alloc, source, INPUT_LIMIT) {
         Ok(input) => input,
         Err(ReadError::TooLong) => return finish(sink, 1, b"input too long\n"),

@@ -1,5 +1,5 @@
 use super::*;
-use outside::{MemSink, MemSource, Sink};
+use crate::bench::{owned, sink_of, source_of};
 use std::alloc::Global;
 use std::test::Fail;
 
@@ -43,13 +43,10 @@ fn serve(
     failing_read: &[u64],
     failing_write: &[u64],
 ) -> Result<Outcome, Fail> {
-    let mut owned = Vec::new(alloc);
-    for word in words {
-        owned.push(String::from_str(alloc, word)?)?;
-    }
-    let mut source = MemSource::new(input.to_vec(alloc)?, failing_read.to_vec(alloc)?, 64);
-    let mut sink = MemSink::new(alloc, 1_000, failing_write.to_vec(alloc)?, 8)?;
-    let status = memprof_still(alloc, owned.as_slice(), &mut source, &mut sink);
+    let words = owned(alloc, words)?;
+    let mut source = source_of(alloc, input, failing_read)?;
+    let mut sink = sink_of(alloc, failing_write)?;
+    let status = memprof_still(alloc, words.as_slice(), &mut source, &mut sink);
     let text = sink.taken().to_vec(alloc)?;
     Ok(Outcome { status, text })
 }

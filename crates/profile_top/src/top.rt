@@ -1,6 +1,6 @@
 //! The call that the program makes, which runs traces too.
 
-ghost use Rattle.std.specs.Prelude.{◌≡◌, ◌≢◌, ◌<◌, ◌≤◌, ◌⊎◌, ◌↔◌, ℕ, IsTrue, List, [], ◌∷◌, Some, None, map, codes};
+ghost use Rattle.std.specs.Prelude.{◌≡◌, ◌≢◌, ◌<◌, ◌⊎◌, ◌↔◌, ℕ, IsTrue, List, [], ◌∷◌, Some, None, map, codes};
 ghost use Rattle.std.specs.String.{string_bytes};
 ghost use Rattle.std.specs.Io.KnownBytes.{Appends};
 ghost use Rattle.outside.specs.Faults.{Rose};
@@ -9,7 +9,7 @@ ghost use Rattle.tag_model.specs.Index.{program_shape};
 ghost use Rattle.info_group.specs.Keys.{file_key, module_key};
 ghost use Rattle.trace_play.specs.Answer.{run_answer};
 ghost use Rattle.profile_top.specs.declared.mode.Mode.{Mode};
-ghost use Rattle.profile_top.specs.Answers.{input_limit};
+ghost use Rattle.profile_top.specs.Answers.{TellsFaults, input_limit};
 ghost use Rattle.profile_top.specs.Commands.{Command, Still, Run, CommandServed, CommandServedInPart, IsRunnable, command_answer, command_of, is_run};
 ghost use Rattle.trace_run.specs.Runs.{HasRun};
 ghost use Rattle.profile_top.specs.Spelled.{ServedBy, SentInPart, StepSays, CheckSays, GroupsSay, RunSays};
@@ -57,16 +57,12 @@ pub fn memprof<R: Threads + Wait + Sync, G: Gate + Sync, S: Source, K: Sink>(
         → (result ≡ (command_answer command input).status) × Appends (K.taken sink.old) (K.taken sink.new) (command_answer command input).text }
     ensures in_part { (command : Command) → command_of (map string_bytes words.now) ≡ Some command → result ≡ 5
         → CommandServedInPart command (S.left source.old) (S.left source.new) (K.taken sink.old) (K.taken sink.new) plant.old plant.new }
-    ensures read_fault { result ≡ 4 → Rose (S.faults source.old) (S.faults source.new) }
-    ensures write_fault { result ≡ 5 → Rose (K.faults sink.old) (K.faults sink.new) }
-    ensures complete { (command : Command) → command_of (map string_bytes words.now) ≡ Some command → ¬ Rose (S.faults source.old) (S.faults source.new) → ¬ Rose (K.faults sink.old) (K.faults sink.new) → result ≢ 3 → result < 2 }
-    ensures faults { (S.faults source.old ≤ S.faults source.new) × (K.faults sink.old ≤ K.faults sink.new) }
     // No call of the source or the sink failed, but where the status says so.
-    ensures no_read_fault { result ≢ 4 → S.faults source.new ≡ S.faults source.old }
-    ensures no_write_fault { result ≢ 5 → K.faults sink.new ≡ K.faults sink.old }
+    ensures read_faults { TellsFaults 4 result (S.faults source.old) (S.faults source.new) }
+    ensures write_faults { TellsFaults 5 result (K.faults sink.old) (K.faults sink.new) }
+    ensures complete { (command : Command) → command_of (map string_bytes words.now) ≡ Some command → ¬ Rose (S.faults source.old) (S.faults source.new) → ¬ Rose (K.faults sink.old) (K.faults sink.new) → result ≢ 3 → result < 2 }
     // Where memory ran out or reading failed, no more was read than an input may have.
-    ensures within { result ≡ 3 → TookWithin input_limit (S.left source.old) (S.left source.new) }
-    ensures fault_within { result ≡ 4 → TookWithin input_limit (S.left source.old) (S.left source.new) }
+    ensures within { (result ≡ 3) ⊎ (result ≡ 4) → TookWithin input_limit (S.left source.old) (S.left source.new) }
     // The plant: only `run` changes it, and only where the input's trace is run. It then has what the trace comes to, also
     // where a `load` line is refused and where writing failed.
     ensures still { (mode : Mode) → command_of (map string_bytes words.now) ≡ Some (Still mode) → plant.new ≡ plant.old }
@@ -111,14 +107,9 @@ fn serve_run<R: Threads + Wait + Sync, G: Gate + Sync, S: Source, K: Sink>(
     ensures decided { (input : List ℕ) → S.left source.old ≡ Some input → result < 2
         → (result ≡ (command_answer Run input).status) × Appends (K.taken sink.old) (K.taken sink.new) (command_answer Run input).text }
     ensures in_part { result ≡ 5 → CommandServedInPart Run (S.left source.old) (S.left source.new) (K.taken sink.old) (K.taken sink.new) plant.old plant.new }
-    ensures read_fault { result ≡ 4 → Rose (S.faults source.old) (S.faults source.new) }
-    ensures write_fault { result ≡ 5 → Rose (K.faults sink.old) (K.faults sink.new) }
-    ensures complete { ¬ Rose (S.faults source.old) (S.faults source.new) → ¬ Rose (K.faults sink.old) (K.faults sink.new) → result ≢ 3 → result < 2 }
-    ensures faults { (S.faults source.old ≤ S.faults source.new) × (K.faults sink.old ≤ K.faults sink.new) }
-    ensures no_read_fault { result ≢ 4 → S.faults source.new ≡ S.faults source.old }
-    ensures no_write_fault { result ≢ 5 → K.faults sink.new ≡ K.faults sink.old }
-    ensures within { result ≡ 3 → TookWithin input_limit (S.left source.old) (S.left source.new) }
-    ensures fault_within { result ≡ 4 → TookWithin input_limit (S.left source.old) (S.left source.new) }
+    ensures read_faults { TellsFaults 4 result (S.faults source.old) (S.faults source.new) }
+    ensures write_faults { TellsFaults 5 result (K.faults sink.old) (K.faults sink.new) }
+    ensures within { (result ≡ 3) ⊎ (result ≡ 4) → TookWithin input_limit (S.left source.old) (S.left source.new) }
     ensures untouched { result ≡ 4 → plant.new ≡ plant.old }
     ensures not_run { (input : List ℕ) → S.left source.old ≡ Some input → ¬ IsRunnable input → plant.new ≡ plant.old }
     ensures ran { (input : List ℕ) → S.left source.old ≡ Some input → result ≢ 3 → result ≢ 4 → IsRunnable input → HasRun (run_answer None input).machine plant.old plant.new }
