@@ -3,7 +3,6 @@ mod mixed;
 mod script;
 
 use self::desk::new_desks;
-use self::mixed::{FRAMES, VECTORS, free_rest, give_again, give_first};
 use self::script::{Step, play};
 use crate::{ObjError, is_counted};
 use std::test::Fail;
@@ -22,12 +21,8 @@ const fn refuse(size: u64, error: ObjError) -> Step {
     Step::Refuse { size, error }
 }
 
-const fn free(number: u8) -> Step {
-    Step::Free {
-        count: 1,
-        first: number,
-        apart: 0,
-    }
+const fn free(count: u8, first: u8) -> Step {
+    Step::Free { count, first }
 }
 
 const fn slab(frame: u32, there: bool) -> Step {
@@ -65,7 +60,7 @@ fn thirty_three_objects(rt: HostRuntime) -> Result<(), Fail> {
             give(1, 100, 1, (1, 0, Some(1))),
             slab(1, true),
             Step::Words([(8192, 2), (4224, 33), (0, 0)]),
-            free(32),
+            free(1, 32),
             slab(1, false),
             Step::Words([(4096, 1), (4096, 32), (0, 0)]),
             give(1, 8, 2, (1, 0, Some(1))),
@@ -105,11 +100,11 @@ fn object_without_cell(rt: HostRuntime) -> Result<(), Fail> {
             give(1, 8, 1, (0, 0, Some(0))),
             give(1, 100, 1, (1, 0, None)),
             Step::Words([(8192, 2), (8, 1), (0, 0)]),
-            free(0),
+            free(1, 0),
             give(1, 100, 1, (1, 1, None)),
             give(1, 8, 2, (0, 0, Some(0))),
             Step::Words([(8192, 2), (0, 0), (8, 1)]),
-            free(1),
+            free(1, 1),
             slab(1, true),
         ],
     )?;
@@ -166,13 +161,4 @@ fn place_comes_home(rt: HostRuntime) -> Result<(), Fail> {
             give(1, 9, 2, (0, 0, Some(0))),
         ],
     )
-}
-
-// 200 objects of mixed classes, freed in another order than they were given in.
-#[test]
-fn two_hundred_objects(rt: HostRuntime) -> Result<(), Fail> {
-    let (mut desk, _other) = new_desks(rt.alloc(), FRAMES, VECTORS)?;
-    give_first(&rt, &mut desk)?;
-    give_again(&rt, &mut desk)?;
-    free_rest(&rt, &mut desk)
 }

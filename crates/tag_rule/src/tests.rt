@@ -62,16 +62,10 @@ fn small() -> Shape
 #[test]
 fn a_reference_comes_and_goes(rt: HostRuntime) -> Result<(), Fail> {
     let shape = small();
-    let Seats {
-        mut cpus,
-        mut pages,
-        objects: _,
-        list,
-        loads: _,
-    } = make(rt.alloc(), shape)?;
-    assert!(rt; list.shape() == shape && cpus.len() == 1 && pages.len() == 1);
-    let cpu = &mut cpus[0];
-    let pool = &mut pages[0];
+    let mut seats = make(rt.alloc(), shape)?;
+    assert!(rt; seats.list.shape() == shape && seats.cpus.len() == 1 && seats.pages.len() == 1);
+    let cpu = &mut seats.cpus[0];
+    let pool = &mut seats.pages[0];
     let first = page_cell(shape, 0, 0);
     let mut cell = part(pool, first, 2);
     opens(cpu, &mut cell);
@@ -107,9 +101,7 @@ fn read_next(list: &mut ListSeat, cpu: &mut CpuSeat, own: bool) -> Option<u64>
     requires table { cpu.old.board ≡ list.old.board }
     ensures board { (list.new.board ≡ list.old.board) × (cpu.new.board ≡ cpu.old.board) }
 {
-    let Some(reader) = list.reader() else {
-        return None;
-    };
+    let reader = list.reader()?;
     if own && reader.cpu == cpu.cpu() {
         return Some(scan_own(list, cpu));
     }
@@ -142,16 +134,14 @@ fn a_module_comes_and_goes(rt: HostRuntime) -> Result<(), Fail> {
     let cpu = &mut cpus[0];
     comes_and_dies(&mut list, &mut loads);
     assert_eq!(rt; loads.next(), 2);
-    assert_eq!(rt;
-        list.reader(),
-        Some(Reader {
-            pass: Kind::Bytes,
-            id: 1,
-            tag: 2,
-            cpu: 0,
-            sum: 0,
-        })
-    );
+    let first = Reader {
+        pass: Kind::Bytes,
+        id: 1,
+        tag: 2,
+        cpu: 0,
+        sum: 0,
+    };
+    assert_eq!(rt; list.reader(), Some(first));
     assert_eq!(rt; read_next(&mut list, cpu, false), Some(0));
     assert_eq!(rt; read_next(&mut list, cpu, true), Some(0));
     assert_eq!(rt; list.reader().map(|reader| reader.pass), Some(Kind::Calls));

@@ -57,22 +57,19 @@ pub fn new_desks(alloc: Global, frames: u32, vectors: u32) -> Result<(Desk, Desk
         mut objects,
         list: _,
         loads: _,
-    } = make(alloc, shape_of(frames, vectors))?;
+    } = make(
+        alloc,
+        Shape {
+            cpus: 2,
+            tags: 3,
+            kernel_tags: 3,
+            frames,
+            vectors,
+        },
+    )?;
     let first = new_desk(alloc, cpus.remove(0), pages.remove(0), objects.remove(0))?;
     let second = new_desk(alloc, cpus.remove(0), pages.remove(0), objects.remove(0))?;
     Ok((first, second))
-}
-
-fn shape_of(frames: u32, vectors: u32) -> Shape
-    ensures { result ≡ record { cpus = 2; tags = 3; kernel_tags = 3; frames = frames; vectors = vectors } }
-{
-    Shape {
-        cpus: 2,
-        tags: 3,
-        kernel_tags: 3,
-        frames,
-        vectors,
-    }
 }
 
 fn new_desk(

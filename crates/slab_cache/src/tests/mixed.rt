@@ -1,17 +1,10 @@
 //! A script of a block and 199 objects of ten classes, freed in another order. Its numbers were worked out by hand.
 
-ghost use Rattle.std.specs.Prelude.{◌≡◌};
-
-use super::desk::Desk;
+use super::desk::new_desks;
 use super::script::{Step, play};
-use super::{give, refuse, slab};
+use super::{free, give, refuse, slab};
 use crate::ObjError;
-use std::process::Abort;
 use std::test::Fail;
-
-pub const FRAMES: u32 = 64;
-
-pub const VECTORS: u32 = 5;
 
 // Objects at each third place.
 const fn fill(count: u8, size: u64, tag: u32, first: (u32, u8, Option<u32>)) -> Step {
@@ -24,22 +17,14 @@ const fn fill(count: u8, size: u64, tag: u32, first: (u32, u8, Option<u32>)) -> 
     }
 }
 
-// Objects at each third number downwards, from 0 round by 199.
-const fn free(count: u8, first: u8) -> Step {
-    Step::Free {
-        count,
-        first,
-        apart: 197,
-    }
-}
-
-/// The first 150. From the sixth slab on all vectors are out, and only what goes into frame 0 is counted.
-pub fn give_first(rt: &impl Abort, desk: &mut Desk) -> Result<(), Fail>
-    ensures { desk.new ≡ desk.old }
-{
+// 200 objects of mixed classes, freed in another order than they were given in.
+#[test]
+fn two_hundred_objects(rt: HostRuntime) -> Result<(), Fail> {
+    let (mut desk, _other) = new_desks(rt.alloc(), 64, 5)?;
+    // The first 150. From the sixth slab on all vectors are out, and only what goes into frame 0 is counted.
     play(
-        rt,
-        desk,
+        &rt,
+        &mut desk,
         &[
             give(40, 8, 1, (0, 0, Some(0))),
             give(24, 100, 2, (1, 0, Some(1))),
@@ -58,16 +43,11 @@ pub fn give_first(rt: &impl Abort, desk: &mut Desk) -> Result<(), Fail>
             give(1, 170, 1, (27, 0, None)),
             Step::Words([(163_840, 12), (17_568, 62), (19_648, 49)]),
         ],
-    )
-}
-
-/// Frees 149, 146 and so on to 2, with the slabs at 16, 27 and 40. The next 50 take their places and vector 3.
-pub fn give_again(rt: &impl Abort, desk: &mut Desk) -> Result<(), Fail>
-    ensures { desk.new ≡ desk.old }
-{
+    )?;
+    // Frees 149, 146 and so on to 2, with the slabs at 16, 27 and 40. The next 50 take their places and vector 3.
     play(
-        rt,
-        desk,
+        &rt,
+        &mut desk,
         &[
             free(50, 149),
             slab(40, false),
@@ -83,16 +63,11 @@ pub fn give_again(rt: &impl Abort, desk: &mut Desk) -> Result<(), Fail>
             fill(4, 129, 2, (26, 0, None)),
             Step::Words([(131_072, 11), (18_264, 61), (23_048, 53)]),
         ],
-    )
-}
-
-/// Frees 199 to 22, 19 to 42 and 39 to 152. The block goes first, and no slab; then all frames are free.
-pub fn free_rest(rt: &impl Abort, desk: &mut Desk) -> Result<(), Fail>
-    ensures { desk.new ≡ desk.old }
-{
+    )?;
+    // Frees 199 to 22, 19 to 42 and 39 to 152. The block goes first, and no slab; then all frames are free.
     play(
-        rt,
-        desk,
+        &rt,
+        &mut desk,
         &[
             free(60, 199),
             slab(32, true),

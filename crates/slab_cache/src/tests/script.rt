@@ -22,11 +22,10 @@ pub enum Step {
         size: u64,
         error: ObjError,
     },
-    /// So many objects, the first with its number, and each further one so many numbers on, round by the last number.
+    /// So many objects, the first with its number, and each further one three numbers below, from 0 round by 199.
     Free {
         count: u8,
         first: u8,
-        apart: u8,
     },
     /// The bytes and calls of each tag.
     Words([(u64, u64); 3]),
@@ -38,7 +37,7 @@ pub enum Step {
 }
 
 /// Numbers are counted round at this many objects.
-const ROUND: u8 = 200;
+const ROUND: u32 = 200;
 
 pub fn play(rt: &impl Abort, desk: &mut Desk, steps: &[Step]) -> Result<(), Fail>
     ensures { desk.new ≡ desk.old }
@@ -55,11 +54,7 @@ pub fn play(rt: &impl Abort, desk: &mut Desk, steps: &[Step]) -> Result<(), Fail
             Step::Refuse { size, error } => {
                 assert_eq!(rt; desk.ask(Some(1), *size).err(), Some(*error));
             }
-            Step::Free {
-                count,
-                first,
-                apart,
-            } => free_all(rt, desk, *count, *first, *apart),
+            Step::Free { count, first } => free_all(rt, desk, *count, *first),
             Step::Words(words) => assert_eq!(rt; desk.words(), Some(*words)),
             Step::Slab { frame, there } => {
                 assert_eq!(rt; desk.slab(*frame).is_some(), *there, "at {frame}");
@@ -92,11 +87,11 @@ fn give_all(
     Ok(())
 }
 
-fn free_all(rt: &impl Abort, desk: &mut Desk, count: u8, first: u8, apart: u8)
+fn free_all(rt: &impl Abort, desk: &mut Desk, count: u8, first: u8)
     ensures { desk.new ≡ desk.old }
 {
     for index in 0..count {
-        let number = (u32::from(first) + u32::from(index) * u32::from(apart)) % u32::from(ROUND);
+        let number = (u32::from(first) + u32::from(index) * (ROUND - 3)) % ROUND;
         assert!(rt; desk.free_number(number as usize), "number {number}");
     }
 }
