@@ -9,6 +9,7 @@ mod laws;
 mod line_error;
 mod places;
 mod reading;
+mod series;
 mod text_error;
 mod words;
 
@@ -19,6 +20,7 @@ pub use laws::{limits_of_lines_are_these, limits_of_sizes_are_these, limits_of_w
 pub use line_error::LineError;
 pub use places::{module_word, tag_word};
 pub use reading::{Body, Keyword, Reading, read_lines};
+pub use series::Series;
 pub use text_error::error_at;
 pub use words::{cpu_word, is_word, key_word, need, number_word, size_word};
 

@@ -9,10 +9,10 @@ ghost use Rattle.step_text.specs.StepWords.{step_keyword};
 
 use crate::step_lines::{do_line, go_line, words_line};
 use crate::step_words::{BodyWord, step_keyword};
-use crate::steps::{StepAct, StepLine, StepLines, Steps};
+use crate::steps::{StepAct, StepLine, Steps};
 use input_form::{
-    Body, Code, Head, Keyword, LineError, Reading, TextError, cpus_of, empty_head, first_line,
-    is_word, need, read_lines,
+    Body, Code, Head, Keyword, LineError, Reading, Series, TextError, cpus_of, empty_head,
+    first_line, is_word, need, read_lines,
 };
 use std::alloc::{AllocError, Global};
 use text_form::LineWords;
@@ -23,7 +23,7 @@ const PRINT_LIMIT: u32 = 64;
 /// The body so far.
 #[derive(Debug, Drop)]
 pub(crate) struct StepBody {
-    lines: StepLines,
+    lines: Series<StepLine>,
     prints: u32,
 }
 
@@ -33,7 +33,7 @@ fn empty_reading(alloc: Global) -> Reading<StepBody>
     Reading {
         head: empty_head(alloc),
         body: StepBody {
-            lines: StepLines::new(alloc),
+            lines: Series::new(alloc),
             prints: 0,
         },
     }

@@ -1,7 +1,6 @@
 //! What a schedule of the step language says.
 
-use std::alloc::{AllocError, Global};
-use std::marker::Model;
+use input_form::Series;
 use tag_section::Sections;
 
 /// Who takes the steps of an op.
@@ -76,58 +75,11 @@ pub struct StepLine {
     pub act: StepAct,
 }
 
-/// The body lines in their order.
-#[derive(Debug, Drop)]
-pub struct StepLines {
-    lines: Vec<StepLine>,
-}
-
-impl Model for StepLines {
-    ghost use Rattle.std.specs.Prelude.{List};
-    ghost use Rattle.step_text.specs.declared.steps.StepLine.{StepLine};
-
-    ghost Value = { List StepLine };
-
-    ghost view = { λ body. body.lines.items };
-}
-
-impl StepLines {
-    ghost use Rattle.std.specs.Prelude.{◌≡◌, ◌==◌, length, [], ◌∷◌, ◌++◌, OnOk, OnErr};
-
-    pub(crate) fn new(alloc: Global) -> StepLines
-        ensures { result ≡ [] }
-    {
-        StepLines {
-            lines: Vec::new(alloc),
-        }
-    }
-
-    pub(crate) fn push(&mut self, line: StepLine) -> Result<(), AllocError>
-        ensures ok { OnOk result (self.new ≡ self.old ++ line ∷ []) }
-        ensures err { OnErr result (self.new ≡ self.old) }
-    {
-        self.lines.push(line)?;
-        Ok(())
-    }
-
-    pub(crate) fn is_empty(&self) -> bool
-        ensures { result ≡ (length self.now == 0) }
-    {
-        self.lines.is_empty()
-    }
-
-    pub fn as_slice(&self) -> &[StepLine]
-        ensures { result.now ≡ self.now }
-    {
-        self.lines.as_slice()
-    }
-}
-
 /// A schedule: the sizes, the sections of tags, and the body.
 #[derive(Debug, Drop)]
 pub struct Steps {
     pub cpus: u32,
     pub area: u32,
     pub sections: Sections,
-    pub body: StepLines,
+    pub body: Series<StepLine>,
 }

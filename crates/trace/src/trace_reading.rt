@@ -9,10 +9,10 @@ ghost use Rattle.trace.specs.TraceWords.{trace_keyword};
 
 use crate::trace_lines::on_line;
 use crate::trace_words::{BodyWord, trace_keyword};
-use crate::traces::{Item, Items, OnOp, OnOps, Trace};
+use crate::traces::{Item, OnOp, Trace};
 use input_form::{
-    Body, Code, Head, Keyword, LineError, Reading, TextError, cpus_of, empty_head, first_line,
-    is_word, module_word, need, read_lines,
+    Body, Code, Head, Keyword, LineError, Reading, Series, TextError, cpus_of, empty_head,
+    first_line, is_word, module_word, need, read_lines,
 };
 use std::alloc::{AllocError, Global};
 use text_form::LineWords;
@@ -23,8 +23,8 @@ const PRINT_LIMIT: u32 = 64;
 /// The body so far. A round that is open is not yet among the items.
 #[derive(Debug, Drop)]
 pub(crate) struct TraceBody {
-    items: Items,
-    round: Option<OnOps>,
+    items: Series<Item>,
+    round: Option<Series<OnOp>>,
     prints: u32,
 }
 
@@ -34,7 +34,7 @@ fn empty_reading(alloc: Global) -> Reading<TraceBody>
     Reading {
         head: empty_head(alloc),
         body: TraceBody {
-            items: Items::new(alloc),
+            items: Series::new(alloc),
             round: None,
             prints: 0,
         },
@@ -42,7 +42,7 @@ fn empty_reading(alloc: Global) -> Reading<TraceBody>
 }
 
 // The round that is open ends.
-fn close(items: &mut Items, round: Option<OnOps>) -> Result<(), AllocError>
+fn close(items: &mut Series<Item>, round: Option<Series<OnOp>>) -> Result<(), AllocError>
     ensures { OnOk result (items.new ≡ closed items.old round) }
 {
     match round {
@@ -72,7 +72,7 @@ impl TraceBody {
         ensures { OnOk result (self.new ≡ with_round self.old) }
     {
         close(&mut self.items, self.round.take())?;
-        self.round = Some(OnOps::new(alloc));
+        self.round = Some(Series::new(alloc));
         Ok(())
     }
 
