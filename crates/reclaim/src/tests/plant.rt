@@ -2,7 +2,6 @@
 
 ghost use Rattle.std.specs.Prelude.{All, IfSome, IsTrue, ◌<◌, ◌≡◌, ◌≤◌, map};
 ghost use Rattle.std.specs.List.{range_with_len};
-ghost use Rattle.tag_model.specs.Shape.{IsChecked};
 ghost use Rattle.tag_model.specs.StepRules.{may_begin};
 ghost use Rattle.tag_rule.specs.Shown.{CellShown, CpuShown};
 
@@ -13,7 +12,7 @@ use std::alloc::Global;
 use std::sync::Arc;
 use std::test::Fail;
 use tag_model::{Shape, Tag, page_cell};
-use tag_rule::{CellSeat, CpuSeat, LoadPass, Seats, make, part, singles};
+use tag_rule::{CellSeat, CpuSeat, LoadPass, make, part, singles};
 use tag_section::Sections;
 
 /// The module list of a new table with its pass, all its CPUs, and cells of the first CPU's node.
@@ -39,41 +38,28 @@ fn program(alloc: Global) -> Result<Sections, Fail> {
     Ok(sections)
 }
 
-/// So many CPUs, a tag of the kernel and four of the area.
-pub fn shape_of(cpus: u32) -> Shape
-    ensures { result ≡ record { cpus = cpus; tags = 5; kernel_tags = 1; frames = 512; vectors = 0 } }
+/// A new table's, with so many CPUs and cells. The kernel has a tag, and the area four.
+pub fn new_plant(alloc: Global, cpus: u32, cells: u32) -> Result<Plant, Fail>
+    requires cpus { (0 < cpus) × (cpus ≤ 64) }
+    requires cells { (0 < cells) × (cells ≤ 512) }
 {
-    Shape {
+    let shape = Shape {
         cpus,
         tags: 5,
         kernel_tags: 1,
         frames: 512,
         vectors: 0,
-    }
-}
-
-pub fn new_plant(alloc: Global, shape: Shape, count: u32) -> Result<Plant, Fail>
-    requires checked { IsChecked shape }
-    requires tags { (shape.kernel_tags ≡ 1) × (shape.tags ≡ 5) }
-    requires some { 0 < count }
-    requires few { count ≤ shape.frames }
-{
-    let Seats {
-        cpus,
-        mut pages,
-        list,
-        loads,
-        ..
-    } = make(alloc, shape)?;
-    let run = part(&mut pages[0], page_cell(shape, 0, 0), count);
-    let cells = singles(alloc, &cpus[0], run)?;
+    };
+    let mut seats = make(alloc, shape)?;
+    let run = part(&mut seats.pages[0], page_cell(shape, 0, 0), cells);
+    let cells = singles(alloc, &seats.cpus[0], run)?;
     let book = Book::new(alloc, 1, 4)?;
     let sections = Arc::new(alloc, program(alloc)?)?;
-    let locked = Locked::new(book, list, sections);
+    let locked = Locked::new(book, seats.list, sections);
     Ok(Plant {
         locked,
-        loads,
-        cpus,
+        loads: seats.loads,
+        cpus: seats.cpus,
         cells,
     })
 }

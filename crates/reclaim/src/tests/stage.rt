@@ -2,7 +2,7 @@
 
 ghost use Rattle.std.specs.Prelude.{◌<◌, ◌≡◌};
 
-use super::plant::{Plant, enter_first, new_plant, shape_of};
+use super::plant::{Plant, enter_first, new_plant};
 use super::race::unload_around;
 use crate::{
     Locked, NotLoaded, Reclaim, UnloadError, clean_locked, enter_locked, leave_locked, load_locked,
@@ -38,7 +38,7 @@ pub fn new_stage(alloc: Global) -> Result<Option<Stage>, Fail> {
         loads,
         mut cpus,
         mut cells,
-    } = new_plant(alloc, shape_of(2), 2)?;
+    } = new_plant(alloc, 2, 2)?;
     match (cpus.pop(), cpus.pop(), cells.pop(), cells.pop()) {
         (Some(cpu), Some(other), Some(spare), Some(cell)) => Ok(Some(Stage {
             locked,

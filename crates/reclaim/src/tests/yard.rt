@@ -6,7 +6,7 @@ ghost use Rattle.std.specs.Thread.{IsSend, IsSync};
 ghost use Rattle.tag_model.specs.StepRules.{may_begin};
 ghost use Rattle.tag_rule.specs.Shown.{CellShown, CpuShown};
 
-use super::plant::{Plant, enter_first, new_plant, shape_of};
+use super::plant::{Plant, enter_first, new_plant};
 use super::splits::{clear, share};
 use crate::{
     Locked, ModuleList, Reclaim, clean_quiet_locked, leave_locked, load_locked, unload_locked,
@@ -252,7 +252,7 @@ pub fn new_yard(alloc: Global) -> Result<Option<(Yard, Reclaim)>, Fail> {
         mut loads,
         mut cpus,
         mut cells,
-    } = new_plant(alloc, shape_of(3), 2 * EACH + 3)?;
+    } = new_plant(alloc, 3, 2 * EACH + 3)?;
     let id = load_first(&mut locked, &mut loads)?;
     let Some(mut keeper) = cpus.pop() else {
         return Ok(None);

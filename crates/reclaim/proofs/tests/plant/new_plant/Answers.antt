@@ -22,36 +22,39 @@ cpus_all : (k : Shape) (s : Seats) (f : AreFresh k s) → map (λ (c : CpuShown)
 cpus_all k s f =
     ap (map (λ (c : CpuShown). c.part.number)) f.cpus ∙ (numbers f.board (range_with_len 0 f.board.shape.cpus) ∙ ap (λ (b : Board). range_with_len 0 b.shape.cpus) (sym (list_there k s f)))
 
+abbrev shape_of : ℕ → Shape
+shape_of cpus = record { cpus = cpus; tags = 5; kernel_tags = 1; frames = 512; vectors = 0 }
+
 pub part-run-requires-clause-there : goal.part-run-requires-clause-there
 part-run-requires-clause-there c n h =
-    pool_has c.args.shape c.in_ok-cpus.field-0 c.in_ok-cpus.ensures c.index_mut.result.now c.page_cell.result c.args.count n c.requires.checked.some_cpu c.index_mut.ensures.value c.page_cell.ensures.index c.requires.few h
+    pool_has (shape_of c.args.cpus) c.in_ok-seats.seats c.in_ok-seats.ensures c.index_mut.result.now c.page_cell.result c.args.cells n c.requires.cpus.0 c.index_mut.ensures.value c.page_cell.ensures.index c.requires.cells.1 h
 
 pub index_mut-requires : goal.index_mut-requires
-index_mut-requires c = let long = pages_long c.args.shape c.in_ok-cpus.field-0 c.in_ok-cpus.ensures in
-    let low : 0 < c.in_ok-cpus.field-0.pages.len = omega (arith, long, c.in_ok-cpus.field-0.pages.ok.0, c.requires.checked.some_cpu) in
+index_mut-requires c = let long = pages_long (shape_of c.args.cpus) c.in_ok-seats.seats c.in_ok-seats.ensures in
+    let low : 0 < c.in_ok-seats.seats.pages.len = omega (arith, long, c.in_ok-seats.seats.pages.ok.0, c.requires.cpus.0) in
     low
 
 pub index-requires : goal.index-requires
-index-requires c = let long = cpus_long c.args.shape c.in_ok-cpus.field-0 c.in_ok-cpus.ensures in
-    let low : 0 < c.in_ok-cpus.field-0.cpus.len = omega (arith, long, c.in_ok-cpus.field-0.cpus.ok.0, c.requires.checked.some_cpu) in
+index-requires c = let long = cpus_long (shape_of c.args.cpus) c.in_ok-seats.seats c.in_ok-seats.ensures in
+    let low : 0 < c.in_ok-seats.seats.cpus.len = omega (arith, long, c.in_ok-seats.seats.cpus.ok.0, c.requires.cpus.0) in
     low
 
 pub singles-requires-clause-table : goal.singles-requires-clause-table
 singles-requires-clause-table c =
-    let long : length c.in_ok-cpus.field-0.cpus.items ≡ c.args.shape.cpus = cpus_long c.args.shape c.in_ok-cpus.field-0 c.in_ok-cpus.ensures in
-    run_there c.args.shape c.in_ok-cpus.field-0 c.in_ok-cpus.ensures c.index_mut.result.now c.part-run.result c.requires.checked.some_cpu c.index_mut.ensures.value (ap (λ (cell : CellShown). cell.board) c.part-run.ensures.cell)
-    ∙ list_there c.args.shape c.in_ok-cpus.field-0 c.in_ok-cpus.ensures
-    ∙ sym (ap (λ (cpu : CpuShown). cpu.board) (c.index.ensures ∙ cpu_at c.args.shape c.in_ok-cpus.field-0 c.in_ok-cpus.ensures 0 c.index.result.now (omega (arith, long, c.requires.checked.some_cpu))))
+    let long : length c.in_ok-seats.seats.cpus.items ≡ c.args.cpus = cpus_long (shape_of c.args.cpus) c.in_ok-seats.seats c.in_ok-seats.ensures in
+    run_there (shape_of c.args.cpus) c.in_ok-seats.seats c.in_ok-seats.ensures c.index_mut.result.now c.part-run.result c.requires.cpus.0 c.index_mut.ensures.value (ap (λ (cell : CellShown). cell.board) c.part-run.ensures.cell)
+    ∙ list_there (shape_of c.args.cpus) c.in_ok-seats.seats c.in_ok-seats.ensures
+    ∙ sym (ap (λ (cpu : CpuShown). cpu.board) (c.index.ensures ∙ cpu_at (shape_of c.args.cpus) c.in_ok-seats.seats c.in_ok-seats.ensures 0 c.index.result.now (omega (arith, long, c.requires.cpus.0))))
 
 pub singles-requires-clause-none : goal.singles-requires-clause-none
 singles-requires-clause-none c = ap (λ (cell : CellShown). cell.held) c.part-run.ensures.cell
 
 pub invariant_of-result : goal.invariant_of-result
 invariant_of-result c =
-    let k = c.args.shape in
-    let s = c.in_ok-cpus.field-0 in
-    let f = c.in_ok-cpus.ensures in
-    let run = run_there k s f c.index_mut.result.now c.part-run.result c.requires.checked.some_cpu c.index_mut.ensures.value (ap (λ (cell : CellShown). cell.board) c.part-run.ensures.cell) in
+    let k = shape_of c.args.cpus in
+    let s = c.in_ok-seats.seats in
+    let f = c.in_ok-seats.ensures in
+    let run = run_there k s f c.index_mut.result.now c.part-run.result c.requires.cpus.0 c.index_mut.ensures.value (ap (λ (cell : CellShown). cell.board) c.part-run.ensures.cell) in
     let board : c.new-locked.result.board ≡ s.list.board = ap (λ (l : LockedShown). l.board) c.new-locked.ensures in
     record {
       loads_there = ap (λ (p : PassShown). p.board) f.loads ∙ (sym (list_there k s f) ∙ sym board);
