@@ -9,7 +9,7 @@ mod steps;
 
 pub use laws::steps_are_formed;
 pub use step_reading::read_steps;
-pub use steps::{StepAct, StepActor, StepLine, StepOp, Steps};
+pub use steps::{StepAct, StepActor, StepLine, StepLines, StepOp, Steps};
 
 #[cfg(test)]
 mod tests;

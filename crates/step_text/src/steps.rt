@@ -75,11 +75,14 @@ pub struct StepLine {
     pub act: StepAct,
 }
 
+/// The body lines in their order.
+pub type StepLines = Series<StepLine>;
+
 /// A schedule: the sizes, the sections of tags, and the body.
 #[derive(Debug, Drop)]
 pub struct Steps {
     pub cpus: u32,
     pub area: u32,
     pub sections: Sections,
-    pub body: Series<StepLine>,
+    pub body: StepLines,
 }

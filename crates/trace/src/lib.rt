@@ -9,9 +9,11 @@ mod traces;
 
 pub use input_form::{Code, LineError, TextError, error_at};
 pub use laws::traces_are_formed;
-pub use step_text::{StepAct, StepActor, StepLine, StepOp, Steps, read_steps, steps_are_formed};
+pub use step_text::{
+    StepAct, StepActor, StepLine, StepLines, StepOp, Steps, read_steps, steps_are_formed,
+};
 pub use trace_reading::read_trace;
-pub use traces::{Item, OnOp, Trace, TraceOp};
+pub use traces::{Item, Items, OnOp, OnOps, Trace, TraceOp};
 
 #[cfg(test)]
 mod tests;

@@ -27,14 +27,20 @@ pub struct OnOp {
     pub op: TraceOp,
 }
 
+/// The `on` lines of a round in their order.
+pub type OnOps = Series<OnOp>;
+
 /// A part of the body that runs as one.
 #[derive(Debug, Drop)]
 pub enum Item {
-    Round { ops: Series<OnOp> },
+    Round { ops: OnOps },
     Load { line: u32, section: u32 },
     Print,
     Areas,
 }
+
+/// The body in its order.
+pub type Items = Series<Item>;
 
 /// A trace: the sizes, the sections of tags, and the body. Kept ranges are shown where its version is 1.1.
 #[derive(Debug, Drop)]
@@ -45,5 +51,5 @@ pub struct Trace {
     pub frames: u32,
     pub vectors: u32,
     pub sections: Sections,
-    pub body: Series<Item>,
+    pub body: Items,
 }
