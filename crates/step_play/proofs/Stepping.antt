@@ -12,8 +12,8 @@ use Rattle.input_form.specs.Judging.{◌>>=◌, at}
 use Rattle.input_form.specs.declared.code.TextError.{TextError}
 use Rattle.input_form.specs.declared.code.TextError.TheVariants as text_error
 use Rattle.step_text.specs.declared.steps.StepLine.{StepLine}
-use Rattle.step_play.specs.declared.acts.ActError.{ActError}
-use Rattle.step_play.specs.declared.acts.ActError.TheVariants as error
+use Rattle.input_form.specs.declared.line_error.LineError.{LineError}
+use Rattle.input_form.specs.declared.line_error.LineError.TheVariants as error
 use Rattle.step_play.specs.Printed.{Setting}
 use Rattle.step_play.specs.Schedule.{Played, one_step, steps_taken, with_text, play, act_on, setting, core_played, is_idle, all_taken, ◌then◌}
 use Rattle.step_play.specs.Playing.{Shows, Follows, SameSizes, Plays, own_setting}
@@ -39,7 +39,7 @@ goes_on s who now next text written before left n start X x e g f =
     stepped_on s who next written left n start g.played (g.rest ∙ ap (λ (k : ℕ). steps_taken s who k g.played) e) X x (one_step s who g.played) refl f
 
 -- a step that is refused ends all
-pub goes_err : (s : Setting) (who : Actor) (now next : CoreState) (text written : List ℕ) (before n : ℕ) (start : Played) (X Y : Type 0) (e : ActError) → 0 < before → (g : Goes s who now text before n start)
+pub goes_err : (s : Setting) (who : Actor) (now next : CoreState) (text written : List ℕ) (before n : ℕ) (start : Played) (X Y : Type 0) (e : LineError) → 0 < before → (g : Goes s who now text before n start)
     → Follows {X = X} s (Err e) next written (one_step s who g.played) → Follows {X = Y} s (Err e) next written (steps_taken s who n start)
 goes_err s who now next text written zero n start X Y e h g f = absurd (omega arith)
 goes_err s who now next text written (suc left) n start X Y (error.Refused why) h g f = g.rest ∙ ap (λ (r : Result Played Code). r >>= steps_taken s who left) f
@@ -94,7 +94,7 @@ all_on s who now next text written n start idle X x told busy less g f = go g.le
     go (suc left) enough rest = all_stepped s who next written n left start g.played (omega arith) (rest ∙ not_idle s who left g.played (idle_shown s who now text g.played idle g.shows told ∙ busy)) X x (one_step s who g.played) refl f
 
 -- a step that is refused ends all
-pub all_err : (s : Setting) (who : Actor) (now next : CoreState) (text written : List ℕ) (n : ℕ) (start : Played) (idle : Bool) (X Y : Type 0) (e : ActError) → (IsTrue idle ↔ (ops_of now who ≡ [])) → (IsTrue idle ↔ (steps_left now who ≡ 0)) → idle ≡ false
+pub all_err : (s : Setting) (who : Actor) (now next : CoreState) (text written : List ℕ) (n : ℕ) (start : Played) (idle : Bool) (X Y : Type 0) (e : LineError) → (IsTrue idle ↔ (ops_of now who ≡ [])) → (IsTrue idle ↔ (steps_left now who ≡ 0)) → idle ≡ false
     → (g : GoesAll s who now text n start) → Follows {X = X} s (Err e) next written (one_step s who g.played) → Follows {X = Y} s (Err e) next written (all_taken s who n start)
 all_err s who now next text written n start idle X Y (error.Memory want) told none busy g f = tt
 all_err s who now next text written n start idle X Y (error.Refused why) told none busy g f = go g.left g.enough g.rest

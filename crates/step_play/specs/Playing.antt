@@ -9,8 +9,8 @@ use Rattle.step_text.specs.declared.steps.StepAct.{StepAct}
 use Rattle.step_text.specs.declared.steps.StepAct.TheVariants as act
 use Rattle.step_text.specs.declared.steps.StepLine.{StepLine}
 use Rattle.step_play.specs.Acts.{actor_of, op_of}
-use Rattle.step_play.specs.declared.acts.ActError.{ActError}
-use Rattle.step_play.specs.declared.acts.ActError.TheVariants as error
+use Rattle.input_form.specs.declared.line_error.LineError.{LineError}
+use Rattle.input_form.specs.declared.line_error.LineError.TheVariants as error
 use Rattle.step_play.specs.declared.schedule.End.{End}
 use Rattle.step_play.specs.declared.schedule.End.TheVariants as end
 use Rattle.step_play.specs.Printed.{Setting}
@@ -23,7 +23,7 @@ pub record Shows (s : Setting) (now : CoreState) (written : List ℕ) (p : Playe
   pub text : written ≡ p.text
 
 -- A call left what the meaning says, unless memory ran out; a refusal is the meaning's.
-abbrev pub Follows : {X : Type 0} → Setting → Result X ActError → CoreState → List ℕ → Result Played Code → Type 0
+abbrev pub Follows : {X : Type 0} → Setting → Result X LineError → CoreState → List ℕ → Result Played Code → Type 0
 Follows s (Ok x) core text (Ok p) = Shows s core text p
 Follows s (Ok x) core text (Err why) = ⊥
 Follows s (Err (error.Refused why)) core text meant = meant ≡ Err why

@@ -4,26 +4,7 @@ ghost use Rattle.std.specs.Prelude.{◌≡◌};
 ghost use Rattle.step_play.specs.Acts.{actor_of, op_of, code_of};
 
 use core_steps::{Actor, Op, StepRefused};
-use std::alloc::AllocError;
 use trace::{Code, StepActor, StepOp};
-
-/// Why a line isn't played.
-#[derive(Debug, Drop)]
-pub(crate) enum ActError {
-    Refused(Code),
-    Memory(AllocError),
-}
-
-impl From<AllocError> for ActError {
-    ghost use Rattle.std.specs.Prelude.{◌≡◌};
-    ghost use Rattle.step_play.specs.declared.acts.ActError.TheVariants.{Memory};
-
-    ghost from_gives = { λ cause error. error ≡ Memory cause };
-
-    fn from(cause: AllocError) -> ActError {
-        ActError::Memory(cause)
-    }
-}
 
 /// The actor that takes the steps.
 pub(crate) fn actor_of(actor: StepActor) -> Actor

@@ -10,14 +10,14 @@ ghost use Rattle.step_play.specs.Printed.{Setting};
 ghost use Rattle.step_play.specs.Schedule.{Played, one_step, steps_taken, steps_on, queues_on, act_on, play, module_number, words_of, number_of};
 ghost use Rattle.step_play.specs.Playing.{Shows, Follows, SameSizes, StepsOn, IsAct, IsLine, own_setting, Plays};
 
-use crate::acts::{ActError, actor_of, code_of, op_of};
+use crate::acts::{actor_of, code_of, op_of};
 use crate::print::{write_allocinfo, write_event, write_words};
 use core_steps::{Actor, Core, Op, QueueError};
 use std::alloc::Global;
-use trace::{Code, StepAct, StepLine, TextError};
+use trace::{Code, LineError, StepAct, StepLine, TextError, error_at};
 
 /// Queues the op.
-fn play_do(core: &mut Core, actor: Actor, op: Op) -> Result<(), ActError>
+fn play_do(core: &mut Core, actor: Actor, op: Op) -> Result<(), LineError>
     requires actor { IsActor core.old actor }
     requires op { IsOpOf core.old.sections actor op }
     ensures meaning { (text : List ℕ) (p : Played) → Shows (own_setting core.old) core.old text p → Follows (own_setting core.old) result core.new text (queues_on (own_setting core.old) actor op p) }
@@ -25,13 +25,13 @@ fn play_do(core: &mut Core, actor: Actor, op: Op) -> Result<(), ActError>
 {
     match core.queue(actor, op) {
         Ok(()) => Ok(()),
-        Err(QueueError::QueueFull) => Err(ActError::Refused(Code::Queue)),
-        Err(QueueError::Memory(want)) => Err(ActError::Memory(want)),
+        Err(QueueError::QueueFull) => Err(LineError::Refused(Code::Queue)),
+        Err(QueueError::Memory(want)) => Err(LineError::Memory(want)),
     }
 }
 
 /// Takes one step, and writes what it tells.
-fn play_step(core: &mut Core, actor: Actor, out: &mut Vec<u8>) -> Result<(), ActError>
+fn play_step(core: &mut Core, actor: Actor, out: &mut Vec<u8>) -> Result<(), LineError>
     ensures meaning { (p : Played) → Shows (own_setting core.old) core.old out.old.items p → Follows (own_setting core.old) result core.new out.new.items (one_step (own_setting core.old) actor p) }
     ensures left { IfOk result (λ _. steps_left core.new actor < steps_left core.old actor) }
     ensures sizes { SameSizes core.old core.new }
@@ -41,7 +41,7 @@ fn play_step(core: &mut Core, actor: Actor, out: &mut Vec<u8>) -> Result<(), Act
             write_event(core.sections(), event, out)?;
             Ok(())
         }
-        Err(why) => Err(ActError::Refused(code_of(why))),
+        Err(why) => Err(LineError::Refused(code_of(why))),
     }
 }
 
@@ -59,7 +59,7 @@ fn play_reads(core: &mut Core, actor: Actor, most: u32) -> u32
 }
 
 /// Takes so many steps, up to the first that is refused.
-fn play_steps(core: &mut Core, actor: Actor, count: u32, out: &mut Vec<u8>) -> Result<(), ActError>
+fn play_steps(core: &mut Core, actor: Actor, count: u32, out: &mut Vec<u8>) -> Result<(), LineError>
     ensures meaning { (p : Played) → Shows (own_setting core.old) core.old out.old.items p → Follows (own_setting core.old) result core.new out.new.items (steps_taken (own_setting core.old) actor count p) }
     ensures sizes { SameSizes core.old core.new }
 {
@@ -75,7 +75,7 @@ fn play_steps(core: &mut Core, actor: Actor, count: u32, out: &mut Vec<u8>) -> R
 }
 
 /// Takes steps until the actor is idle, up to the first that is refused.
-fn play_all(core: &mut Core, actor: Actor, out: &mut Vec<u8>) -> Result<(), ActError>
+fn play_all(core: &mut Core, actor: Actor, out: &mut Vec<u8>) -> Result<(), LineError>
     ensures meaning { (p : Played) → Shows (own_setting core.old) core.old out.old.items p → Follows (own_setting core.old) result core.new out.new.items (steps_on (own_setting core.old) actor None p) }
     ensures sizes { SameSizes core.old core.new }
 {
@@ -94,7 +94,7 @@ fn play_go(
     actor: Actor,
     count: Option<u32>,
     out: &mut Vec<u8>,
-) -> Result<(), ActError>
+) -> Result<(), LineError>
     ensures meaning { (p : Played) → Shows (own_setting core.old) core.old out.old.items p → Follows (own_setting core.old) result core.new out.new.items (steps_on (own_setting core.old) actor count p) }
     ensures sizes { SameSizes core.old core.new }
 {
@@ -132,14 +132,14 @@ fn tag_number(core: &Core, section: u32, index: u32) -> Option<u32>
 }
 
 /// Writes each CPU's words of the tag.
-fn play_words(core: &Core, section: u32, index: u32, out: &mut Vec<u8>) -> Result<(), ActError>
+fn play_words(core: &Core, section: u32, index: u32, out: &mut Vec<u8>) -> Result<(), LineError>
     requires kernel { length (section_at core.now.sections 0).tags ≤ core.now.shape.tags }
     requires section { section < length core.now.sections }
     requires index { index < length (section_at core.now.sections section).tags }
     ensures { (p : Played) → Shows (own_setting core.now) core.now out.old.items p → Follows (own_setting core.now) result core.now out.new.items (words_of (own_setting core.now) section (number_of section index p) p) }
 {
     match tag_number(core, section, index) {
-        None => Err(ActError::Refused(Code::NotLoaded(section))),
+        None => Err(LineError::Refused(Code::NotLoaded(section))),
         Some(number) => {
             write_words(core, core.cpus(), number, out)?;
             Ok(())
@@ -148,7 +148,12 @@ fn play_words(core: &Core, section: u32, index: u32, out: &mut Vec<u8>) -> Resul
 }
 
 /// Does what a line asks for.
-fn play_act(alloc: Global, core: &mut Core, act: StepAct, out: &mut Vec<u8>) -> Result<(), ActError>
+fn play_act(
+    alloc: Global,
+    core: &mut Core,
+    act: StepAct,
+    out: &mut Vec<u8>,
+) -> Result<(), LineError>
     requires kernel { 0 < length core.old.sections }
     requires fits { length (section_at core.old.sections 0).tags ≤ core.old.shape.tags }
     requires act { IsAct core.old act }
@@ -179,11 +184,9 @@ fn play_line(
     ensures meaning { (p : Played) → Shows (own_setting core.old) core.old out.old.items p → Plays (own_setting core.old) result core.new out.new.items (at line.line (act_on (own_setting core.old) line.act p)) }
     ensures sizes { SameSizes core.old core.new }
 {
-    let number = line.line;
     match play_act(alloc, core, line.act, out) {
         Ok(()) => Ok(()),
-        Err(ActError::Refused(code)) => Err(TextError::Refused { line: number, code }),
-        Err(ActError::Memory(want)) => Err(TextError::Memory(want)),
+        Err(error) => Err(error_at(line.line, error)),
     }
 }
 
