@@ -28,9 +28,9 @@ use Rattle.cpu_ops.specs.declared.op.CpuOp.TheVariants.{Open, Close, Split, Swap
 use Rattle.cpu_ops.specs.declared.step.WordStep.TheVariants.{GoIn, GoOut}
 use Rattle.cpu_ops.specs.declared.step.WordStep.{WordStep}
 use Rattle.cpu_ops.specs.declared.refused.StepRefused.TheVariants.{NoStep}
-use Rattle.cpu_ops.specs.Machine.{Waiting, Machine, Scene, machine_after, places_after, part_key, share_step, nothing_waits, reserves, names_key, hand_at, waiting_at, step_of, hand_after, words_after, advanced, first_refusal, refusal_in, refusal_of, stepped_by, after_step, step_in, step_at, own_words_in, own_words_after, step_count, KeysFit, HasCall, CanTake}
+use Rattle.cpu_ops.specs.Machine.{Waiting, Machine, Scene, machine_after, places_after, part_key, share_step, nothing_waits, reserves, names_key, hand_at, waiting_at, step_of, hand_after, words_after, advanced, first_refusal, refusal_in, refusal_of, stepped_by, after_step, step_in, step_at, own_words_in, own_words_after, step_count}
+use Rattle.cpu_ops.specs.Needs.{KeysFit, HasCall, CanTake, SectionsFit, TagFits, CanGo, CanStep}
 use Rattle.core_steps.specs.CoreState.{CoreState, AreModules, runs_in, runs_of, list_parts, state_with, state_after, modules_stepped, modules_after_step, refused, stepped, IsReady, IsReadyAt, IsMachine, IsCore, IsUnderWay, words_stepped, words_after_step, state_of}
-use Rattle.cpu_ops.specs.Machine.{SectionsFit, TagFits, CanGo, CanStep}
 use Rattle.module_ops.specs.Modules.{ListFits, words_at}
 use Rattle.cpu_ops.specs.MayQueue.{IsOp}
 use Rattle.core_steps.proofs.Ready.{Next, next, others_ready, reserved as under_way_reserves, free_key, running_first}

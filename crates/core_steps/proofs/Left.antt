@@ -8,7 +8,7 @@ use Rattle.cpu_ops.specs.declared.op.CpuOp.{CpuOp}
 use Rattle.cpu_ops.specs.declared.refused.StepRefused.TheVariants.{NoStep}
 use Rattle.cpu_ops.specs.Machine.{Machine, Waiting, nothing_waits, waiting_at, step_count, advanced, refusal_in, stepped_by, after_step}
 use Rattle.core_steps.specs.CoreState.{CoreState, IsCore, refused}
-use Rattle.cpu_ops.specs.Machine.{CanStep}
+use Rattle.cpu_ops.specs.Needs.{CanStep}
 use Rattle.core_steps.specs.declared.op.Actor.TheVariants as actor
 use Rattle.module_ops.specs.Modules.{ModuleTable, inside_at, scene_at}
 use Rattle.core_steps.proofs.Kept.{can_go}

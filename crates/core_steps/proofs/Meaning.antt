@@ -14,10 +14,11 @@ use Rattle.cpu_ops.specs.declared.op.CpuOp.{CpuOp}
 use Rattle.core_steps.specs.declared.op.Actor.TheVariants as actor
 use Rattle.cpu_ops.specs.declared.step.WordStep.{WordStep}
 use Rattle.cpu_ops.specs.declared.step.WordStep.TheVariants.{BeginAllocation, AddBytes, AddCall, SubtractBytes, SubtractCall, Write, GoIn, GoOut}
-use Rattle.cpu_ops.specs.Machine.{Machine, hand_at, waiting_at, step_of, words_after, moves_of, moves_in, moves_of_step, after_step, refusal_in, CanTake}
+use Rattle.cpu_ops.specs.Machine.{Machine, hand_at, waiting_at, step_of, words_after, moves_of, moves_in, moves_of_step, after_step, refusal_in}
+use Rattle.cpu_ops.specs.Needs.{CanTake, CanStep}
 use Rattle.core_steps.specs.CoreState.{CoreState, IsCore, words_stepped, modules_after_step, refused, stepped, fresh}
 use Rattle.module_ops.specs.Modules.{words_at, fresh_modules}
-use Rattle.cpu_ops.specs.Machine.{fresh_machine, CanStep}
+use Rattle.cpu_ops.specs.Machine.{fresh_machine}
 use Rattle.module_ops.specs.Modules.{ModuleTable, inside_at, scene_at}
 use Rattle.tag_section.specs.Section.{Section}
 use Rattle.core_steps.specs.Moved.{kind_at, own_moved, words_moved, core_of, HasMoved, moved_on}

@@ -25,7 +25,8 @@ use Rattle.tag_model.proofs.Swept.{part_passes}
 use Rattle.tag_model.proofs.Told.{hand_in_tags}
 use Rattle.cpu_ops.specs.declared.step.WordStep.{WordStep}
 use Rattle.cpu_ops.specs.declared.step.WordStep.TheVariants.{BeginAllocation, AddBytes, AddCall, SubtractBytes, SubtractCall, Write, GoIn, GoOut}
-use Rattle.cpu_ops.specs.Machine.{Machine, hand_at, held_at, hand_after, places_after, words_after, raised_in_hand, lowered_in_hand, with_bytes, with_call, less_bytes, CanTake, HandInWords, HasRoom, HasBytes, HasCall}
+use Rattle.cpu_ops.specs.Machine.{Machine, hand_at, held_at, hand_after, places_after, words_after, raised_in_hand, lowered_in_hand, with_bytes, with_call, less_bytes}
+use Rattle.cpu_ops.specs.Needs.{CanTake, HandInWords, HasRoom, HasBytes, HasCall}
 use Rattle.module_ops.specs.Modules.{words_at}
 use Rattle.core_steps.specs.CoreState.{cpu_part, cpu_parts, place_parts}
 use Rattle.core_steps.proofs.Parts.{becomes_first, length-cpu_parts, get_or-cpu_parts, get_or-place_parts, length-place_parts, sum_both, sum_without}

@@ -8,7 +8,8 @@ use Rattle.tag_model.specs.declared.state.Held.TheVariants as held
 use Rattle.cpu_ops.specs.declared.op.CpuOp.{CpuOp}
 use Rattle.cpu_ops.specs.declared.op.CpuOp.TheVariants.{Open, Close, Split, Swap, Trim, Enter, Leave}
 use Rattle.cpu_ops.specs.declared.op.TheConstants.{KEY_END}
-use Rattle.cpu_ops.specs.Machine.{Waiting, nothing_waits, advanced, names_key, reserves, is_reserved, step_count, KeysFit, with_op}
+use Rattle.cpu_ops.specs.Machine.{Waiting, nothing_waits, advanced, names_key, reserves, is_reserved, step_count, with_op}
+use Rattle.cpu_ops.specs.Needs.{KeysFit}
 use Rattle.cpu_ops.specs.Reserved.{flag_at, AreReserved, Flagged, Noted, Notes}
 
 -- ---- a list in which one element is replaced, and a test that some element passes

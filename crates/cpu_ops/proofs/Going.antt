@@ -11,7 +11,8 @@ use Rattle.cpu_ops.proofs.Flags.{reserved_after}
 use Rattle.cpu_ops.specs.declared.op.CpuOp.{CpuOp}
 use Rattle.cpu_ops.specs.declared.step.WordStep.{WordStep}
 use Rattle.cpu_ops.specs.declared.step.WordStep.TheVariants.{BeginAllocation, AddBytes, AddCall, SubtractBytes, SubtractCall, Write, GoIn, GoOut}
-use Rattle.cpu_ops.specs.Machine.{Machine, Scene, Waiting, nothing_waits, advanced, waiting_at, hand_at, step_of, step_count, first_refusal, places_after, KeysFit, CanTake, CanStep, CanGo}
+use Rattle.cpu_ops.specs.Machine.{Machine, Scene, Waiting, nothing_waits, advanced, waiting_at, hand_at, step_of, step_count, first_refusal, places_after}
+use Rattle.cpu_ops.specs.Needs.{KeysFit, CanTake, CanStep, CanGo}
 
 -- what waits, where there is a first op
 pub record First (w : Waiting) (op : CpuOp) : Type 0 where

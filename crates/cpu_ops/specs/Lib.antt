@@ -1,3 +1,4 @@
 pub mod Machine
 pub mod Reserved
 pub mod MayQueue
+pub mod Needs

@@ -2,7 +2,8 @@
 
 ghost use Rattle.std.specs.Prelude.{◌≡◌, ◌<◌, ◌≤◌, ◌↔◌, [], ℕ, IsTrue, IsOkAnd, IfOk, OnOk, OnErr, MatchOption, length, replicate, Some};
 ghost use Rattle.cpu_ops.specs.declared.op.TheConstants.{KEY_END, MAX_QUEUED};
-ghost use Rattle.cpu_ops.specs.Machine.{held_at, waiting_at, nothing_waits, is_reserved, refusal_of, step_at, after_step, own_words_after, queued_on, fresh_machine, CanGo};
+ghost use Rattle.cpu_ops.specs.Machine.{held_at, waiting_at, nothing_waits, is_reserved, refusal_of, step_at, after_step, own_words_after, queued_on, fresh_machine};
+ghost use Rattle.cpu_ops.specs.Needs.{CanGo};
 
 use crate::op::{CpuOp, KEY_END, MAX_QUEUED};
 use crate::refused::{QueueError, StepRefused};

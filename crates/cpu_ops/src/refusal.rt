@@ -2,7 +2,8 @@
 
 ghost use Rattle.std.specs.Prelude.{◌≡◌, ◌+◌, ◌<◌, ◌==◌, if◌then◌else◌, None, length};
 ghost use Rattle.cpu_ops.specs.declared.op.TheConstants.{KEY_END};
-ghost use Rattle.cpu_ops.specs.Machine.{holds_nothing, size_of, is_used, is_live, used_key, open_refusal, close_refusal, split_refusal, swap_refusal, trim_refusal, enter_refusal, leave_refusal, first_refusal, KeysFit, SectionsFit};
+ghost use Rattle.cpu_ops.specs.Machine.{holds_nothing, size_of, is_used, is_live, used_key, open_refusal, close_refusal, split_refusal, swap_refusal, trim_refusal, enter_refusal, leave_refusal, first_refusal};
+ghost use Rattle.cpu_ops.specs.Needs.{KeysFit, SectionsFit};
 ghost use Rattle.tag_model.specs.Reference.{is_counted};
 
 use crate::machine::Machine;

@@ -3,7 +3,8 @@
 ghost use Rattle.std.specs.Prelude.{◌≡◌, ◌+◌, ◌≤◌, ◌<◌, ◌==◌, not, IsTrue, List, Bool, length, replicate, IfOk, false, true};
 ghost use Rattle.cpu_ops.specs.declared.op.TheConstants.{KEY_END};
 ghost use Rattle.cpu_ops.specs.declared.op.CpuOp.TheVariants.{Split};
-ghost use Rattle.cpu_ops.specs.Machine.{KeysFit, names_key, step_count};
+ghost use Rattle.cpu_ops.specs.Machine.{names_key, step_count};
+ghost use Rattle.cpu_ops.specs.Needs.{KeysFit};
 ghost use Rattle.cpu_ops.specs.Reserved.{flag_at, Flagged, FlaggedFrom, Notes};
 
 use crate::op::{CpuOp, KEY_END};

@@ -3,7 +3,8 @@
 ghost use Rattle.std.specs.Prelude.{◌≡◌, ℕ, ◌+◌, ◌*◌, ◌^◌, ◌<◌, ◌≤◌, length};
 ghost use Rattle.tag_model.specs.StepRules.{without_call};
 ghost use Rattle.cpu_ops.specs.declared.op.TheConstants.{KEY_END};
-ghost use Rattle.cpu_ops.specs.Machine.{step_of, open_step, close_step, split_step, part_key, share_step, share_of, rest_of, swap_step, trim_step, clear_step, put_step, in_hand, put_down, bytes_in, step_count, words_after, hand_after, places_after, CanTake, KeysFit, HasCall, held_at, tag_in, SectionsFit, TagFits};
+ghost use Rattle.cpu_ops.specs.Machine.{step_of, open_step, close_step, split_step, part_key, share_step, share_of, rest_of, swap_step, trim_step, clear_step, put_step, in_hand, put_down, bytes_in, step_count, words_after, hand_after, places_after, held_at, tag_in};
+ghost use Rattle.cpu_ops.specs.Needs.{CanTake, KeysFit, HasCall, SectionsFit, TagFits};
 
 use crate::inside::Inside;
 use crate::op::CpuOp;

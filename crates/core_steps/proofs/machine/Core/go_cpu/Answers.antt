@@ -1,7 +1,7 @@
 use Rattle.std.proofs.Common.{◌≡◌, ℕ, List, [], subst, sym, ◌∙◌, arith}
 use Rattle.std.proofs.lemmas.List.{get_or_default}
 use Rattle.core_steps.specs.CoreState.{CoreState, IsCore}
-use Rattle.cpu_ops.specs.Machine.{CanGo}
+use Rattle.cpu_ops.specs.Needs.{CanGo}
 use Rattle.module_ops.specs.Modules.{words_at, scene_at}
 use Rattle.core_steps.proofs.Kept.{can_go, gone, goes_free, goes_fits, goes_is}
 use Rattle.core_steps.proofs.machine.Core.go_cpu.Goals as goal

@@ -1,6 +1,7 @@
 use Rattle.std.proofs.Common.{◌≡◌, ◌==◌, cond, None, ap, ◌∙◌, sym, subst, arith, List, ◌++◌, drop, take, length}
 use Rattle.tag_model.specs.declared.state.Held.{Held}
-use Rattle.cpu_ops.specs.Machine.{Machine, CanGo, machine_of, step_of, first_refusal}
+use Rattle.cpu_ops.specs.Machine.{Machine, machine_of, step_of, first_refusal}
+use Rattle.cpu_ops.specs.Needs.{CanGo}
 use Rattle.cpu_ops.proofs.Going.{step_takes, flags_after, length-places, written}
 use Rattle.cpu_ops.proofs.machine.Machine.step.Goals as goal
 
